@@ -1,0 +1,5 @@
+pub mod Total
+pub mod Rules
+pub mod Remainders
+pub mod Divided
+pub mod Duals

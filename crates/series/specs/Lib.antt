@@ -1,0 +1,5 @@
+pub mod Weights
+pub mod Series
+pub mod Refusals
+pub mod Terms
+pub mod Trees
