@@ -2,9 +2,9 @@
 use mathlib.Core.Path.{_≡_, sym, ap, _∙_, subst}
 use Prim.Native.Nat.{ℕ}
 use lib.Bits.{bitXor, xor-assoc, xor-self, xor-zero-r}
-use Rattle.binary.specs.Words.{IsProduct, HasDegree, IsRemainder, IsProductModulo}
+use Rattle.binary.specs.Words.{IsProduct, HasDegree, IsRemainder}
 use Rattle.binary.specs.Codes.{times, remainder, product}
-use Rattle.binary.specs.Agreement.{OneProduct, OneRemainder, OneProductModulo, Agrees}
+use Rattle.binary.specs.Agreement.{OneRemainder, OneProductModulo, Agrees}
 use Rattle.binary.proofs.Multiples.{Same}
 use Rattle.binary.proofs.Remainder.{remainder-is, remainder-only}
 use Rattle.binary.proofs.Coefficients.{convolves, same-coefficients}

@@ -1,5 +1,5 @@
 -- To differ by a multiple of f: what sums, products and doubling keep of it.
-use mathlib.Core.Path.{_≡_, refl, sym, ap, ap₂, _∙_}
+use mathlib.Core.Path.{_≡_, sym, ap, ap₂, _∙_}
 use Prim.Native.Nat.{ℕ, _*_}
 use lib.Bits.{bitXor, xor-assoc, xor-self}
 use Rattle.binary.specs.Codes.{times}

@@ -2,7 +2,7 @@
 use mathlib.Core.Path.{_≡_, refl, sym, ap, ap₂, _∙_, subst}
 use mathlib.Core.Bool.{Bool, true, false, cond}
 use Prim.Native.Nat.{ℕ, zero, suc, _+_, _*_, _/_, _%_, _^_, _<_, _≤_}
-use native.Mathlib.Nat.{le-refl, not-suc-le-zero, le-of-suc-le-suc, not-le-of-lt, mod-lt, div-add-mod', zero-mul, one-mul, add-zero, zero-add, pow-suc, div-eq-of-lt, div-eq-of-lt-le, div-lt-iff-lt-mul, zero-lt-suc, le-of-eq, lt-of-le-of-lt}
+use native.Mathlib.Nat.{le-refl, not-suc-le-zero, le-of-suc-le-suc, not-le-of-lt, mod-lt, div-add-mod', zero-mul, one-mul, zero-add, pow-suc, div-eq-of-lt, div-eq-of-lt-le, div-lt-iff-lt-mul, zero-lt-suc, le-of-eq, lt-of-le-of-lt}
 use native.Mathlib.Omega.{arith}
 use lib.Arith.{half-le, bin-ind, digits-lt, le→nltb}
 use lib.Pow.{pow-pos}
@@ -12,7 +12,7 @@ use lib.Dec.{T, ltb, lit<, ltb→lt, nltb→le, lt→ltb}
 use Rattle.binary.specs.Words.{HasDegree}
 use Rattle.binary.specs.Codes.{times, reduce, remainder-bits, remainder, product}
 use Rattle.binary.proofs.Multiples.{Same, cancel, same-eq, same-sym, same-trans, same-xor, same-times-l, same-times-r, same-double}
-use Rattle.binary.proofs.Times.{xor-double, interchange, halves, times-zero, times-step, times-xor-l, times-double-l, times-comm, times-assoc, one-times, times-xor-r, times-double-r}
+use Rattle.binary.proofs.Times.{halves, times-zero, times-step, times-comm, times-assoc, one-times, times-xor-r, times-double-r}
 
 -- ---- one code below 2 ^ d at most
 

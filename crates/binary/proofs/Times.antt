@@ -1,7 +1,7 @@
 -- The laws of `times`: commutative, associative, distributive over the exclusive or, one neutral. All by induction on the bits.
-use mathlib.Core.Path.{_≡_, refl, sym, ap, ap₂, _∙_, subst}
-use Prim.Native.Nat.{ℕ, zero, suc, _+_, _*_, _/_, _%_, _^_, _<_, _≤_, differ}
-use native.Mathlib.Nat.{le-refl, not-suc-le-zero, le-of-suc-le-suc, mod-lt, div-add-mod', zero-mul, one-mul, mul-one, mul-div-cancel, mul-mod-left, add-zero, zero-add, mul-assoc}
+use mathlib.Core.Path.{_≡_, refl, sym, ap, ap₂, _∙_}
+use Prim.Native.Nat.{ℕ, zero, suc, _+_, _*_, _/_, _%_, _<_, _≤_, differ}
+use native.Mathlib.Nat.{le-refl, not-suc-le-zero, le-of-suc-le-suc, mod-lt, div-add-mod', zero-mul, one-mul, mul-one, mul-div-cancel, mul-mod-left, add-zero, mul-assoc}
 use native.Mathlib.Decide.{le-ind}
 use lib.Arith.{half-le, bin-ind}
 use lib.Bits.{bitXor, xor-step, xor-comm, xor-assoc, xor-zero-r, xor-self, xor-shr, xor-mod, xor-shifted}

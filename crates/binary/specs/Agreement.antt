@@ -1,7 +1,7 @@
 -- The numbers that are worked out are those in words, and there are no others.
 use mathlib.Core.Path.{_≡_}
 use Prim.Native.Nat.{ℕ}
-use Rattle.binary.specs.Words.{IsProduct, HasDegree, IsRemainder, IsProductModulo}
+use Rattle.binary.specs.Words.{IsProduct, IsRemainder, IsProductModulo}
 use Rattle.binary.specs.Codes.{times, remainder, product}
 
 -- `times a b` is the one product of a and b

@@ -1,12 +1,12 @@
 -- The binary polynomials modulo f keep the laws.
-use mathlib.Core.Path.{_≡_, refl, subst}
-use Prim.Native.Nat.{ℕ, _^_, _≤_, _<_}
+use mathlib.Core.Path.{refl}
+use Prim.Native.Nat.{ℕ, _^_, _≤_}
 use native.Mathlib.Omega.{arith}
-use lib.Bits.{bitXor, xor-lt, xor-comm, xor-assoc, xor-self}
+use lib.Bits.{xor-lt, xor-comm, xor-assoc, xor-self}
 use lib.Pow.{pow-pos, pow-lt, pow-mono}
 use Rattle.binary.specs.Words.{HasDegree}
 use Rattle.binary.proofs.Remainder.{product-is, product-comm, product-assoc, product-one, product-xor}
-use Rattle.rings.specs.Model.{RingModel, Laws}
+use Rattle.rings.specs.Model.{Laws}
 use Rattle.rings.specs.Polynomials.{polynomials}
 
 module _ (f d : ℕ) (least : 1 ≤ d) (most : d ≤ 31) (leads : HasDegree f d) where

@@ -12,7 +12,6 @@ use Rattle.rings.specs.declared.fault.RingFault.{RingFault}
 use Rattle.rings.specs.declared.fault.RingFault.the-variants.{TooLarge}
 use Rattle.rings.specs.Faults.{raised}
 use Rattle.rings.specs.Model.{RingModel, Order, in-order, Laws, Lawful, if-in-order, clip, code, size-of, one-of, sum, opposite, product}
-use Rattle.rings.specs.Total.{Total}
 use Rattle.rings.specs.Duals.{order-over, dual-order, side, join, dual}
 use Rattle.rings.proofs.Total.{total, size-off, size-pos, one-below, sum-below, opposite-below, product-below, code-is}
 use Rattle.rings.proofs.Rules.{sum-zero, zero-product, expand}
@@ -99,7 +98,7 @@ module _ (b : RingModel) (lawful : Lawful b) (on : dual-order b ≡ in-order) wh
         mul-assoc = λ x y z _ _ _. ap₂ (join s) (simp (first-product, t .product-assoc)) (simp (first-product, second-product, expand));
         mul-comm = λ x y _ _. ap₂ (join s) (t .product-comm _ _) (simp expand);
         one-mul = λ x h. simp (one-first, one-second, t .one-product, first-code, second-code x h, zero-product, sum-zero, mod-add-div);
-        mul-add = λ x y z _ _ _. ap₂ (join s) (simp (first-sum, first-product, t .product-sum)) (simp (first-sum, second-sum, first-product, second-product, expand));
+        mul-add = λ x y z _ _ _. ap₂ (join s) (simp (first-sum, first-product, t .product-sum)) (simp (first-sum, second-sum, second-product, expand));
       }
 
 pub dual-lawful : (b : RingModel) → Lawful b → Lawful (dual b)
@@ -162,7 +161,7 @@ joined-is b x y = joined-at (dual-order b) (size-of b) x y
 
 -- ---- what the dual ring answers, from the parts of its operands
 
-module _ (b : RingModel) (lawful : Lawful b) where
+module _ (b : RingModel) where
   abbrev pub first : ℕ → ℕ
   first x = code (dual b) x % size-of b
 
@@ -175,23 +174,25 @@ module _ (b : RingModel) (lawful : Lawful b) where
   coded : (x y x′ y′ : ℕ) → code b x ≡ x′ → code b y ≡ y′ → join-of x y ≡ if-in-order (dual-order b) (join (size-of b) x′ y′)
   coded x y x′ y′ p q = ap₂ (λ (i j : ℕ). if-in-order (dual-order b) (join (size-of b) i j)) p q
 
-  pub dual-one : join-of (one-of b) 0 ≡ one-of (dual b)
+module _ (b : RingModel) (lawful : Lawful b) where
+  pub dual-one : join-of b (one-of b) 0 ≡ one-of (dual b)
   unfolding one-of dual
   dual-one =
       let t = total b lawful in
-      coded (one-of b) 0 (one-of b) 0 (t .code-one) (t .code-zero) ∙ ap (if-in-order (dual-order b)) (ap (λ (n : ℕ). one-of b + n) (mul-zero (size-of b)) ∙ add-zero (one-of b))
+      coded b (one-of b) 0 (one-of b) 0 (t .code-one) (t .code-zero)
+      ∙ ap (if-in-order (dual-order b)) (ap (λ (n : ℕ). one-of b + n) (mul-zero (size-of b)) ∙ add-zero (one-of b))
 
-  pub dual-sum : (x y : ℕ) → join-of (sum b (first x) (first y)) (sum b (second x) (second y)) ≡ sum (dual b) x y
+  pub dual-sum : (x y : ℕ) → join-of b (sum b (first b x) (first b y)) (sum b (second b x) (second b y)) ≡ sum (dual b) x y
   unfolding sum dual
-  dual-sum x y = coded _ _ _ _ (total b lawful .code-sum _ _) (total b lawful .code-sum _ _)
+  dual-sum x y = coded b _ _ _ _ (total b lawful .code-sum _ _) (total b lawful .code-sum _ _)
 
-  pub dual-opposite : (x : ℕ) → join-of (opposite b (first x)) (opposite b (second x)) ≡ opposite (dual b) x
+  pub dual-opposite : (x : ℕ) → join-of b (opposite b (first b x)) (opposite b (second b x)) ≡ opposite (dual b) x
   unfolding opposite dual
-  dual-opposite x = coded _ _ _ _ (total b lawful .code-opposite _) (total b lawful .code-opposite _)
+  dual-opposite x = coded b _ _ _ _ (total b lawful .code-opposite _) (total b lawful .code-opposite _)
 
-  pub dual-product : (x y : ℕ) → join-of (product b (first x) (first y)) (sum b (product b (first x) (second y)) (product b (second x) (first y))) ≡ product (dual b) x y
+  pub dual-product : (x y : ℕ) → join-of b (product b (first b x) (first b y)) (sum b (product b (first b x) (second b y)) (product b (second b x) (first b y))) ≡ product (dual b) x y
   unfolding product dual
-  dual-product x y = coded _ _ _ _ (total b lawful .code-product _ _) (total b lawful .code-sum _ _)
+  dual-product x y = coded b _ _ _ _ (total b lawful .code-product _ _) (total b lawful .code-sum _ _)
 
 -- ---- whether it is in order
 

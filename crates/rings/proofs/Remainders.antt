@@ -1,9 +1,9 @@
 -- The residues modulo m keep the laws.
-use mathlib.Core.Path.{_≡_, refl, sym, ap, ap₂, _∙_}
-use Prim.Native.Nat.{ℕ, zero, suc, _+_, _-_, _*_, _/_, _%_, _^_, _≤_, _<_}
-use native.Mathlib.Nat.{mod-lt, mod-eq-of-lt, mod-self, mod-add-mod, add-mod-mod, mod-add-div, add-mul-mod-self-left, add-assoc, add-comm, mul-assoc, mul-comm, add-mul, mul-add, one-mul, zero-add, sub-add-cancel}
+use mathlib.Core.Path.{_≡_, sym, ap, _∙_}
+use Prim.Native.Nat.{ℕ, _+_, _-_, _*_, _/_, _%_, _^_, _≤_, _<_}
+use native.Mathlib.Nat.{mod-lt, mod-eq-of-lt, mod-self, mod-add-mod, add-mod-mod, mod-add-div, add-mul-mod-self-left, add-assoc, add-comm, mul-assoc, mul-comm, add-mul, mul-add, one-mul, zero-add}
 use native.Mathlib.Omega.{arith}
-use Rattle.rings.specs.Model.{RingModel, Laws, Lawful}
+use Rattle.rings.specs.Model.{Laws}
 use Rattle.rings.specs.Modular.{residues}
 
 pub mod-mul-mod : (a m b : ℕ) → (a % m * b) % m ≡ (a * b) % m

@@ -1,5 +1,5 @@
 -- Consequences of the laws at all numbers.
-use mathlib.Core.Path.{_≡_, refl, sym, ap, ap₂, _∙_}
+use mathlib.Core.Path.{_≡_, sym, ap, ap₂, _∙_}
 use Prim.Native.Nat.{ℕ}
 use Rattle.rings.specs.Model.{RingModel, code, one-of, sum, opposite, product}
 use Rattle.rings.specs.Total.{Total}
@@ -7,12 +7,6 @@ use Rattle.rings.specs.Total.{Total}
 module _ {m : RingModel} (t : Total m) where
   pub sum-zero : (x : ℕ) → sum m x 0 ≡ code m x
   sum-zero x = t .sum-comm x 0 ∙ t .zero-sum x
-
-  pub sum-code-right : (x y : ℕ) → sum m x (code m y) ≡ sum m x y
-  sum-code-right x y = t .sum-comm x (code m y) ∙ t .sum-code y x ∙ t .sum-comm y x
-
-  pub product-code-right : (x y : ℕ) → product m x (code m y) ≡ product m x y
-  product-code-right x y = t .product-comm x (code m y) ∙ t .product-code y x ∙ t .product-comm y x
 
   pub product-one : (x : ℕ) → product m x (one-of m) ≡ code m x
   product-one x = t .product-comm x (one-of m) ∙ t .one-product x
@@ -33,9 +27,6 @@ module _ {m : RingModel} (t : Total m) where
       let twice : sum m p p ≡ p = sym (sum-product 0 0 x) ∙ ap (λ (a : ℕ). product m a x) (t .zero-sum 0 ∙ t .code-zero) in
       sym (t .code-product 0 x) ∙ sym (t .zero-sum p) ∙ ap (λ (a : ℕ). sum m a p) (sym (t .opposite-sum p))
       ∙ t .sum-assoc (opposite m p) p p ∙ ap (sum m (opposite m p)) twice ∙ t .opposite-sum p
-
-  pub product-zero : (x : ℕ) → product m x 0 ≡ 0
-  product-zero x = t .product-comm x 0 ∙ zero-product x
 
   -- the laws under names that a ruleset can list
   pub sum-assoc : (x y z : ℕ) → sum m (sum m x y) z ≡ sum m x (sum m y z)

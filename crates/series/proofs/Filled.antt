@@ -1,5 +1,5 @@
 -- Tables of weights while they are filled, cell after cell.
-use mathlib.Core.Path.{_≡_, refl, sym, ap, ap₂, subst, _∙_}
+use mathlib.Core.Path.{_≡_, sym, ap₂, _∙_}
 use mathlib.Core.List.{List, [], _∷_, _++_}
 use Prim.Native.Nat.{ℕ, suc, _+_, _≤_, _<_}
 use native.Mathlib.Decide.{decLe}
@@ -7,7 +7,7 @@ use native.Mathlib.Omega.{arith}
 use lib.ListN.{length, getD}
 use Rattle.std.proofs.shelf.Lists.{getD-append-left, getD-push, length-push}
 use Rattle.rings.specs.Model.{RingModel}
-use Rattle.series.specs.Weights.{weight, rows-before, place, Tabulates}
+use Rattle.series.specs.Weights.{weight, place, Tabulates}
 use Rattle.series.proofs.Places.{rows-more, place-below, row-below, same-place}
 
 -- each place that there is has its weight
@@ -15,9 +15,6 @@ abbrev pub Filled : RingModel → ℕ → List ℕ → Type 0
 Filled m q cells = (i j : ℕ) → j ≤ i → place i j < length cells → getD cells (place i j) 0 ≡ weight m q i j
 
 module _ (m : RingModel) (q : ℕ) where
-  pub filled-none : Filled m q []
-  filled-none i j h l = absurd (omega arith)
-
   pub filled-rows : (n : ℕ) (cells : List ℕ) → Tabulates m q n cells → Filled m q cells
   filled-rows n cells t i j h l = t .cell i j (row-below i j n (let e = t .count in omega arith)) h
 

@@ -1,11 +1,9 @@
 -- Where the weights stand when they stand row after row.
-use mathlib.Core.Path.{_≡_, refl, sym, ap, _∙_}
-use mathlib.Core.Logic.{_⊎_, inl, inr}
+use mathlib.Core.Path.{_≡_, refl, ap}
 use Prim.Native.Nat.{ℕ, zero, suc, _+_, _-_, _*_, _/_, _≤_, _<_}
 use native.Mathlib.Nat.{mul-add, add-mul, mul-one, one-mul}
 use native.Mathlib.Decide.{decLe}
 use native.Mathlib.Omega.{arith}
-use Rattle.std.proofs.shelf.Bits.{mul-le}
 use Rattle.series.specs.Weights.{rows-before, place}
 
 grown : (n x : ℕ) → x ≡ n + 1 → x * (x + 1) / 2 ≡ n * x / 2 + x
@@ -50,7 +48,3 @@ same-place i j n k hj hk e =
 -- the row before row n is as long as n
 pub row-above : (n : ℕ) → 0 < n → rows-before (n - 1) + n ≡ rows-before n
 row-above n h = let e : n - 1 + 1 ≡ n = omega arith in let p : rows-before (n - 1 + 1) ≡ rows-before n = ap rows-before e in omega (arith, rows-more (n - 1))
-
--- n × (n + 1) is small
-pub small-square : (n : ℕ) → n ≤ 64 → n * (n + 1) ≤ 4160
-small-square n h = mul-le n (n + 1) 64 65 h (omega arith)

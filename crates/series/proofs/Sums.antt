@@ -1,5 +1,5 @@
 -- Sums of elements, and what a term of a product looks at.
-use mathlib.Core.Path.{_≡_, refl, sym, ap, ap₂, _∙_}
+use mathlib.Core.Path.{_≡_, sym, ap, ap₂, _∙_}
 use mathlib.Core.List.{List}
 use Prim.Native.Nat.{ℕ, zero, suc, _+_, _-_, _≤_, _<_}
 use native.Mathlib.Numerals.{add-one}
@@ -7,8 +7,8 @@ use native.Mathlib.Omega.{arith}
 use lib.ListN.{length, getD}
 use Rattle.rings.specs.Model.{RingModel, code, sum, product}
 use Rattle.rings.specs.Total.{Total}
-use Rattle.series.specs.Weights.{weight, place, Tabulates}
-use Rattle.series.specs.Series.{Series, sum-to, pair, weighted, times}
+use Rattle.series.specs.Weights.{weight, Tabulates}
+use Rattle.series.specs.Series.{Series, sum-to, weighted, times}
 use Rattle.series.specs.Terms.{listed, standing, Enough}
 
 -- the sum of the first k terms, as a loop makes it from 0

@@ -4,14 +4,13 @@ use mathlib.Core.List.{List, [], _∷_, _++_}
 use Prim.Native.Nat.{ℕ, zero, suc, _+_, _≤_, _<_}
 use native.Mathlib.Decide.{decLe}
 use native.Mathlib.Omega.{arith}
-use lib.ListN.{length, getD}
 use Rattle.std.proofs.shelf.Lists.{getD-append-left, getD-push, length-push}
-use Rattle.rings.specs.Model.{RingModel, Lawful, in-order, code, size-of, one-of, sum, product}
+use Rattle.rings.specs.Model.{RingModel, Lawful, in-order, code, size-of, one-of, product}
 use Rattle.rings.specs.Total.{Total}
 use Rattle.rings.proofs.Total.{total, one-below, code-size}
 use Rattle.rings.proofs.Rules.{sum-zero}
 use Rattle.series.specs.Weights.{weight}
-use Rattle.series.specs.Series.{Series, sum-to, weighted, times, plus, ones, number, bracket}
+use Rattle.series.specs.Series.{Series, weighted, times, plus, ones, number, bracket}
 use Rattle.series.specs.Terms.{listed}
 use Rattle.series.specs.Trees.{HoldsAt, IsTreeRow}
 use Rattle.series.proofs.Sums.{sum-code, weighted-cong}

@@ -1,12 +1,12 @@
 -- Terms of products of series whose first terms stand in rows.
 use mathlib.Core.Path.{_≡_}
 use mathlib.Core.List.{List}
-use Prim.Native.Nat.{ℕ, suc, _<_}
+use Prim.Native.Nat.{ℕ, _<_}
 use lib.ListN.{length, getD}
 use Rattle.std.specs.declared.option.Option.{Option}
 use Rattle.std.specs.declared.option.Option.the-variants.{Some, None}
 use Rattle.rings.specs.Model.{RingModel}
-use Rattle.series.specs.Weights.{rows-before, place, Tabulates}
+use Rattle.series.specs.Weights.{place, Tabulates}
 use Rattle.series.specs.Series.{Series, weighted, times}
 
 -- the series that begins with the row, and goes on with zeros
@@ -24,7 +24,7 @@ pub record Enough (cells a b : List ℕ) (n : ℕ) : Type 0 where
   pub second : n < length b
   pub weights : place n n < length cells
 
--- the answer: term n of the product under the weights in the cells, or none where a term or a weight is missing
+-- the answer: term n of the product under the weights in the cells, or none where there is not enough to make it of
 abbrev pub GivesTerm : RingModel → List ℕ → List ℕ → List ℕ → ℕ → Option ℕ → Type 0
 GivesTerm m cells a b n (Some t) = Enough cells a b n × (t ≡ weighted m (standing cells) (listed a) (listed b) n)
 GivesTerm m cells a b n None = ¬ (Enough cells a b n)

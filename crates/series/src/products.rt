@@ -3,9 +3,11 @@ ghost use Rattle.series.specs.Series.{weighted};
 ghost use Rattle.series.specs.Terms.{Enough, GivesProduct, GivesTerm, listed, standing};
 ghost use mathlib.Core.Path.{_≡_};
 use super::MOST_TERMS;
+use super::rows_before;
 use rings::Ring;
 
-// Term n of the product of two series, under weights that stand row after row; none where a term or a weight is missing.
+// Term n of the product of two series, n below 64, under weights that stand row after row; none where a term or a weight is
+// missing.
 pub fn product_term<R: Ring>(
     ring: &R,
     weights: &[u64],
@@ -19,7 +21,7 @@ pub fn product_term<R: Ring>(
     if n >= MOST_TERMS || n >= a.len() || n >= b.len() {
         return None;
     }
-    if n * (n + 1) / 2 + n >= weights.len() {
+    if rows_before(n) + n >= weights.len() {
         return None;
     }
     Some(summed(ring, weights, a, b, n))
@@ -30,7 +32,7 @@ pub(crate) fn summed<R: Ring>(ring: &R, weights: &[u64], a: &[u64], b: &[u64], n
     requires { ⌜ Enough (now weights) (now a) (now b) n ⌝ }
     ensures { λ r. ⌜ r ≡ weighted (meaning (now (ring .entry))) (standing (now (weights .entry))) (listed (now (a .entry))) (listed (now (b .entry))) n ⌝ }
 {
-    let first = n * (n + 1) / 2;
+    let first = rows_before(n);
     let mut sum = 0;
     for k in 0..n + 1 {
         let weighed = ring.mul(weights[first + k], a[k]);

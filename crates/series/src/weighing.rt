@@ -6,6 +6,7 @@ ghost use Rattle.std.specs.Of.Vec.{vec-cap, vec-items};
 ghost use mathlib.Core.Path.{_≡_};
 use super::TableFault;
 use super::admit;
+use super::rows_before;
 use rings::Ring;
 use std::alloc::Global;
 
@@ -20,7 +21,7 @@ pub fn weights<R: Ring>(
     ensures table { λ _. ⌜ OneTable (meaning (now (ring .entry))) q ⌝ }
 {
     admit(ring, q, length)?;
-    let Ok(mut cells) = Vec::with_capacity(heap, length * (length + 1) / 2) else {
+    let Ok(mut cells) = Vec::with_capacity(heap, rows_before(length)) else {
         return Err(TableFault::Memory);
     };
     for n in 0..length {

@@ -6,7 +6,7 @@ use lib.Pow.{pow-pos}
 use lib.Dec.{lit<, ltb}
 use lib.Bits.{bitXor, xor-zero-r, xor-lt}
 use Rattle.binary.specs.Words.{operand}
-use Rattle.binary.specs.Codes.{times, reduce}
+use Rattle.binary.specs.Codes.{times}
 use Rattle.binary.proofs.Clips.{cut-below}
 use Rattle.binary.proofs.Times.{times-zero}
 use Rattle.binary.proofs.Multiples.{Same, same-eq}

@@ -1,4 +1,3 @@
-use mathlib.Core.Path.{_≡_}
 use Prim.Native.Nat.{_^_, _<_}
 use lib.Bits.{bitXor}
 use Rattle.binary.specs.Codes.{times}

@@ -1,6 +1,8 @@
-use mathlib.Core.Path.{_≡_, refl, sym, ap, _∙_}
-use Prim.Native.Nat.{ℕ, _+_}
+use mathlib.Core.Path.{_≡_, refl, sym, ap, ap₂, _∙_}
+use Prim.Native.Nat.{ℕ, _+_, _-_}
 use native.Mathlib.Omega.{arith}
+use lib.ListN.{getD}
+use Rattle.rings.specs.Model.{sum, product}
 use Rattle.rings.proofs.Total.{total}
 use Rattle.series.specs.Series.{pair, weighted}
 use Rattle.series.specs.Terms.{listed, standing}
@@ -14,11 +16,15 @@ loop-k-holds g c = refl
 pub loop-k-again : need.loop-k-again
 loop-k-again g c =
     let m = g .R·Ring .meaning (c .args .ring .now) in
-    let more = sum-more m (c .loop-k .k) (pair m (standing (c .args .weights .now)) (listed (c .args .a .now)) (listed (c .args .b .now)) (c .args .n)) in
-    let weighed = c .mul-weighed .ensures in
-    let paired = c .mul .ensures in
-    let inv = c .loop-k .inv in
-    cc
+    let cells = c .args .weights .now in
+    let a = listed (c .args .a .now) in
+    let b = listed (c .args .b .now) in
+    let n = c .args .n in
+    let k = c .loop-k .k in
+    let weighed : c .mul-weighed .result ≡ product m (standing cells n k) (a k) =
+    c .mul-weighed .ensures ∙ ap (λ (first : ℕ). product m (getD cells (first + k) 0) (a k)) (c .rows-before-first .ensures) in
+    let paired : c .mul .result ≡ pair m (standing cells) a b n k = c .mul .ensures ∙ ap (λ (x : ℕ). product m x (b (n - k))) weighed in
+    c .add-sum .ensures ∙ ap₂ (sum m) (c .loop-k .inv) paired ∙ sym (sum-more m k (pair m (standing cells) a b n))
 
 pub returns : need.returns
 unfolding weighted

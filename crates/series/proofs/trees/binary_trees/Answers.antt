@@ -1,11 +1,10 @@
 use mathlib.Core.Path.{_≡_, refl, sym, ap₂, subst, _∙_}
 use mathlib.Core.List.{List, [], _∷_, _++_}
-use Prim.Native.Nat.{ℕ, _+_, _≤_, _<_}
+use Prim.Native.Nat.{ℕ, _+_, _<_}
 use native.Mathlib.Omega.{arith}
-use lib.ListN.{length}
 use Rattle.std.specs.Of.Vec.{vec-items}
 use Rattle.rings.specs.Model.{RingModel, one-of}
-use Rattle.series.specs.Weights.{place, Tabulates}
+use Rattle.series.specs.Weights.{Tabulates}
 use Rattle.series.specs.Series.{weighted, times}
 use Rattle.series.specs.Terms.{Enough, listed, standing}
 use Rattle.series.specs.Trees.{IsTreeRow}

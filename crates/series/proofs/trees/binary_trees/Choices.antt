@@ -1,6 +1,5 @@
-use mathlib.Core.Path.{_≡_}
 use Prim.Native.Nat.{_+_, _≤_}
-use Rattle.std.specs.Of.Vec.{vec-items, vec-len, vec-cap}
+use Rattle.std.specs.Of.Vec.{vec-items, vec-cap}
 use Rattle.series.specs.Trees.{IsTreeRow}
 use Rattle.series.proofs.trees.binary_trees.Given as given
 

@@ -1,5 +1,4 @@
 use mathlib.Core.Path.{_≡_}
-use lib.ListN.{length}
 use Rattle.std.specs.Of.Vec.{vec-items, vec-len, vec-cap}
 use Rattle.series.specs.Weights.{power, place}
 use Rattle.series.proofs.Filled.{Filled}

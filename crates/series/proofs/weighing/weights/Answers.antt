@@ -3,7 +3,7 @@ use Prim.Native.Nat.{_+_}
 use native.Mathlib.Omega.{arith}
 use Rattle.std.specs.Of.Vec.{vec-items}
 use Rattle.std.proofs.shelf.Results.{err-from-errBy}
-use Rattle.series.specs.Weights.{Tabulates, rows-before}
+use Rattle.series.specs.Weights.{Tabulates}
 use Rattle.series.proofs.Places.{rows-mono}
 use Rattle.series.proofs.Rule.{one-table}
 use Rattle.series.proofs.Admission.{admits, for-memory, decides}
@@ -20,7 +20,7 @@ returns-in-rest g c = record { answer = for-memory _ (sym (c .in-Continue-admit 
 pub loop-n-holds : need.loop-n-holds
 loop-n-holds g c =
     let new = c .in-Ok .ensures tt .made in
-    (rw (new .0) (record { count = refl; cell = λ n k h l. absurd (omega arith) }), new .1 .1)
+    (rw (new .0) (record { count = refl; cell = λ n k h l. absurd (omega arith) }), (let e = c .rows-before .ensures in let r = new .1 .1 in omega arith))
 
 pub push-row-requires : need.push-row-requires
 push-row-requires g c κs =

@@ -1,4 +1,3 @@
-use mathlib.Core.Path.{_∙_}
 use Rattle.rings.proofs.Duals.{joined-is}
 use Rattle.rings.proofs.epsilon.Dual.joined.Needs as need
 

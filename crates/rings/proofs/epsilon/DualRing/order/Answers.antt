@@ -1,5 +1,6 @@
-use mathlib.Core.Path.{sym}
+use mathlib.Core.Path.{sym, ap, _∙_}
 use native.Mathlib.Omega.{arith}
+use Rattle.std.specs.declared.result.Result.the-variants.{Err}
 use Rattle.rings.proofs.Duals.{order-small, order-large, order-below}
 use Rattle.rings.proofs.epsilon.DualRing.order.Needs as need
 
@@ -16,5 +17,4 @@ returns-else-size-gt-MOST g c =
 pub returns-in-Err : need.returns-in-Err
 returns-in-Err g c =
     let b = g .R·Ring .meaning (c .args .self .now .below) in
-    let is = order-below b (c .in-Err .fault) (sym (c .in-Err .ensures tt)) in
-    cc
+    ap Err (c .raised .ensures) ∙ sym (order-below b (c .in-Err .fault) (sym (c .in-Err .ensures tt)))
