@@ -1,27 +1,23 @@
 -- The product and the remainder that are worked out are those in words.
-use mathlib.Core.Path.{_≡_, sym, ap, _∙_, subst}
+use mathlib.Core.Path.{_≡_, sym, _∙_, subst}
 use Prim.Native.Nat.{ℕ}
-use lib.Bits.{bitXor, xor-assoc, xor-self, xor-zero-r}
+use lib.Bits.{bitXor}
 use Rattle.binary.specs.Words.{IsProduct, HasDegree, IsRemainder}
 use Rattle.binary.specs.Codes.{times, remainder, product}
 use Rattle.binary.specs.Agreement.{OneRemainder, OneProductModulo, Agrees}
-use Rattle.binary.proofs.Multiples.{Same}
+use Rattle.binary.proofs.Multiples.{Same, less}
 use Rattle.binary.proofs.Remainder.{remainder-is, remainder-only}
 use Rattle.binary.proofs.Coefficients.{convolves, same-coefficients}
 
 product-only : (a b c : ℕ) → IsProduct a b c → c ≡ times a b
 product-only a b c h = same-coefficients c (times a b) (λ n. h n ∙ sym (convolves a b n))
 
--- a = m + r in the one form and in the other
-move : (a m r : ℕ) → a ≡ bitXor m r → bitXor a r ≡ m
-move a m r e = ap (λ (x : ℕ). bitXor x r) e ∙ xor-assoc m r r ∙ ap (bitXor m) (xor-self r) ∙ xor-zero-r m
-
 back : (a m r : ℕ) → bitXor a r ≡ m → a ≡ bitXor m r
-back a m r e = sym (move m a r (sym e))
+back a m r e = sym (less m a r (sym e))
 
 module _ (f d : ℕ) (leads : HasDegree f d) where
   to-words : (a r : ℕ) → Same f a r → (k : ℕ) × IsProduct k f (bitXor a r)
-  to-words a r (k, e) = (k, subst (IsProduct k f) (sym (move a (times k f) r e)) (convolves k f))
+  to-words a r (k, e) = (k, subst (IsProduct k f) (sym (less a (times k f) r e)) (convolves k f))
 
   of-words : (a r : ℕ) → (k : ℕ) × IsProduct k f (bitXor a r) → Same f a r
   of-words a r (k, h) = (k, back a (times k f) r (product-only k f (bitXor a r) h))

@@ -1,7 +1,7 @@
 -- The coefficients of `times` are the sums of products of coefficients, modulo 2.
 use mathlib.Core.Path.{_≡_, refl, sym, ap, ap₂, _∙_, fun-ext}
 use Prim.Native.Nat.{ℕ, zero, suc, _+_, _-_, _*_, _/_, _%_, _^_, _<_}
-use native.Mathlib.Nat.{mod-lt, zero-mul, one-mul, mul-mod-left, suc-sub-suc, sub-zero, mul-div-cancel, zero-div, div-one, add-zero, not-suc-le-zero, le-of-suc-le-suc}
+use native.Mathlib.Nat.{mod-lt, zero-mul, one-mul, mul-mod-left, suc-sub-suc, sub-zero, mul-div-cancel, zero-div, div-one, add-zero}
 use native.Mathlib.Numerals.{one-add}
 use native.Mathlib.Omega.{arith}
 use lib.Arith.{bin-ind}
@@ -10,7 +10,7 @@ use lib.Pow.{shr-shr}
 use lib.Dec.{lit<}
 use Rattle.binary.specs.Words.{coefficient, sum-to, IsProduct}
 use Rattle.binary.specs.Codes.{times}
-use Rattle.binary.proofs.Times.{times-zero, times-step}
+use Rattle.binary.proofs.Times.{not-bit, times-zero, times-step}
 
 sum-zero : (n : ℕ) (g : ℕ → ℕ) → ((i : ℕ) → g i ≡ 0) → sum-to n g ≡ 0
 unfolding sum-to
@@ -22,11 +22,11 @@ sum-zero (suc n) g h = ap₂ (λ (x y : ℕ). x + y) (h 0) (sum-zero n (λ i. g 
 bits-add : (c e : ℕ) → c < 2 → e < 2 → bitXor c e ≡ (c + e) % 2
 bits-add zero zero hc he = refl
 bits-add zero (suc zero) hc he = refl
-bits-add zero (suc (suc e)) hc he = absurd (not-suc-le-zero (le-of-suc-le-suc (le-of-suc-le-suc he)))
+bits-add zero (suc (suc e)) hc he = not-bit he
 bits-add (suc zero) zero hc he = refl
 bits-add (suc zero) (suc zero) hc he = refl
-bits-add (suc zero) (suc (suc e)) hc he = absurd (not-suc-le-zero (le-of-suc-le-suc (le-of-suc-le-suc he)))
-bits-add (suc (suc c)) e hc he = absurd (not-suc-le-zero (le-of-suc-le-suc (le-of-suc-le-suc hc)))
+bits-add (suc zero) (suc (suc e)) hc he = not-bit he
+bits-add (suc (suc c)) e hc he = not-bit hc
 
 of-xor : (x y n : ℕ) → coefficient (bitXor x y) n ≡ (coefficient x n + coefficient y n) % 2
 of-xor x y n =
@@ -39,7 +39,7 @@ of-zero n = ap (λ (z : ℕ). z % 2) (zero-div (2 ^ n))
 of-bit : (c b n : ℕ) → c < 2 → coefficient (c * b) n ≡ c * coefficient b n
 of-bit zero b n h = ap (λ (z : ℕ). coefficient z n) (zero-mul b) ∙ of-zero n ∙ sym (zero-mul (coefficient b n))
 of-bit (suc zero) b n h = ap (λ (z : ℕ). coefficient z n) (one-mul b) ∙ sym (one-mul (coefficient b n))
-of-bit (suc (suc c)) b n h = absurd (not-suc-le-zero (le-of-suc-le-suc (le-of-suc-le-suc h)))
+of-bit (suc (suc c)) b n h = not-bit h
 
 of-half : (a n : ℕ) → coefficient a (suc n) ≡ coefficient (a / 2) n
 of-half a n = ap (λ (z : ℕ). z % 2) (ap (λ (k : ℕ). a / 2 ^ k) (sym (one-add n)) ∙ sym (shr-shr a 1 n))

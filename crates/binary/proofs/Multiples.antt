@@ -1,7 +1,7 @@
 -- To differ by a multiple of f: what sums, products and doubling keep of it.
 use mathlib.Core.Path.{_≡_, sym, ap, ap₂, _∙_}
 use Prim.Native.Nat.{ℕ, _*_}
-use lib.Bits.{bitXor, xor-assoc, xor-self}
+use lib.Bits.{bitXor, xor-assoc, xor-self, xor-zero-r}
 use Rattle.binary.specs.Codes.{times}
 use Rattle.binary.proofs.Times.{xor-double, interchange, times-zero, times-xor-l, times-double-l, times-comm, times-assoc}
 
@@ -11,6 +11,10 @@ Same f a b = (k : ℕ) × (a ≡ bitXor (times k f) b)
 
 pub cancel : (k b : ℕ) → bitXor k (bitXor k b) ≡ b
 cancel k b = sym (xor-assoc k k b) ∙ ap (λ (x : ℕ). bitXor x b) (xor-self k)
+
+-- a = m + r says that a and r differ by m
+pub less : (a m r : ℕ) → a ≡ bitXor m r → bitXor a r ≡ m
+less a m r e = ap (λ (x : ℕ). bitXor x r) e ∙ xor-assoc m r r ∙ ap (bitXor m) (xor-self r) ∙ xor-zero-r m
 
 pub same-eq : (f : ℕ) {a b : ℕ} → a ≡ b → Same f a b
 same-eq f {a} {b} e = (0, e ∙ sym (ap (λ (x : ℕ). bitXor x b) (times-zero f)))

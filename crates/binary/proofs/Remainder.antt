@@ -2,17 +2,17 @@
 use mathlib.Core.Path.{_≡_, refl, sym, ap, ap₂, _∙_, subst}
 use mathlib.Core.Bool.{Bool, true, false, cond}
 use Prim.Native.Nat.{ℕ, zero, suc, _+_, _*_, _/_, _%_, _^_, _<_, _≤_}
-use native.Mathlib.Nat.{le-refl, not-suc-le-zero, le-of-suc-le-suc, not-le-of-lt, mod-lt, div-add-mod', zero-mul, one-mul, zero-add, pow-suc, div-eq-of-lt, div-eq-of-lt-le, div-lt-iff-lt-mul, zero-lt-suc, le-of-eq, lt-of-le-of-lt}
+use native.Mathlib.Nat.{le-refl, not-suc-le-zero, not-le-of-lt, mod-lt, div-add-mod', zero-mul, one-mul, zero-add, pow-suc, div-eq-of-lt, div-eq-of-lt-le, div-lt-iff-lt-mul, zero-lt-suc, le-of-eq, lt-of-le-of-lt}
 use native.Mathlib.Omega.{arith}
 use lib.Arith.{half-le, bin-ind, digits-lt, le→nltb}
 use lib.Pow.{pow-pos}
-use lib.Bits.{bitXor, xor-comm, xor-assoc, xor-zero-r, xor-self, xor-shr, xor-shifted, xor-lt}
+use lib.Bits.{bitXor, xor-comm, xor-assoc, xor-zero-r, xor-shr, xor-shifted, xor-lt}
 use lib.Ieee.Bits.{is-true, is-false}
 use lib.Dec.{T, ltb, lit<, ltb→lt, nltb→le, lt→ltb}
 use Rattle.binary.specs.Words.{HasDegree}
 use Rattle.binary.specs.Codes.{times, reduce, remainder-bits, remainder, product}
-use Rattle.binary.proofs.Multiples.{Same, cancel, same-eq, same-sym, same-trans, same-xor, same-times-l, same-times-r, same-double}
-use Rattle.binary.proofs.Times.{halves, times-zero, times-step, times-comm, times-assoc, one-times, times-xor-r, times-double-r}
+use Rattle.binary.proofs.Multiples.{Same, less, cancel, same-eq, same-sym, same-trans, same-xor, same-times-l, same-times-r, same-double}
+use Rattle.binary.proofs.Times.{not-bit, halves, times-zero, times-step, times-comm, times-assoc, one-times, times-xor-r, times-double-r}
 
 -- ---- one code below 2 ^ d at most
 
@@ -23,12 +23,12 @@ below x d e =
 pub bit-below : (c f m : ℕ) → c < 2 → f < m → c * f < m
 bit-below zero f m hc h = lt-of-le-of-lt (le-of-eq (zero-mul f)) (lt-of-le-of-lt (omega arith) h)
 bit-below (suc zero) f m hc h = lt-of-le-of-lt (le-of-eq (one-mul f)) h
-bit-below (suc (suc c)) f m hc h = absurd (not-suc-le-zero (le-of-suc-le-suc (le-of-suc-le-suc hc)))
+bit-below (suc (suc c)) f m hc h = not-bit hc
 
 bit-none : (c f m : ℕ) → m ≤ f → c < 2 → c * f < m → c ≡ 0
 bit-none zero f m h hc l = refl
 bit-none (suc zero) f m h hc l = absurd (not-le-of-lt (subst (λ (x : ℕ). x < m) (one-mul f) l) h)
-bit-none (suc (suc c)) f m h hc l = absurd (not-suc-le-zero (le-of-suc-le-suc (le-of-suc-le-suc hc)))
+bit-none (suc (suc c)) f m h hc l = not-bit hc
 
 -- the only multiple of f below 2 ^ d is 0
 pub no-multiple : (f d : ℕ) → HasDegree f d → (k : ℕ) → times k f < 2 ^ d → k ≡ 0
@@ -71,7 +71,7 @@ pub unique : (f d : ℕ) → HasDegree f d → (r s : ℕ) → r < 2 ^ d → s <
 unique f d g r s hr hs (k, e) = e ∙ ap (λ (x : ℕ). bitXor x s) (ap (λ (x : ℕ). times x f) none ∙ times-zero f)
   where
     is : bitXor r s ≡ times k f
-    is = ap (λ (x : ℕ). bitXor x s) e ∙ xor-assoc (times k f) s s ∙ ap (bitXor (times k f)) (xor-self s) ∙ xor-zero-r (times k f)
+    is = less r (times k f) s e
 
     none : k ≡ 0
     none = no-multiple f d g k (subst (λ (x : ℕ). x < 2 ^ d) is (xor-lt d r s hr hs))

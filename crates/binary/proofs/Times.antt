@@ -26,7 +26,8 @@ interchange a b c d =
     ∙ ap (bitXor a) (sym (xor-assoc b c d) ∙ ap (λ (x : ℕ). bitXor x d) (xor-comm b c) ∙ xor-assoc c b d)
     ∙ sym (xor-assoc a c (bitXor b d))
 
-not-bit {ℓ} : {A : Type ℓ} {x : ℕ} → suc (suc x) < 2 → A
+-- no bit is 2 or more
+pub not-bit {ℓ} : {A : Type ℓ} {x : ℕ} → suc (suc x) < 2 → A
 not-bit h = absurd (not-suc-le-zero (le-of-suc-le-suc (le-of-suc-le-suc h)))
 
 bit-xor : (c x y : ℕ) → c < 2 → c * bitXor x y ≡ bitXor (c * x) (c * y)

@@ -13,21 +13,19 @@ use Rattle.rings.specs.declared.fault.RingFault.the-variants.{TooLarge}
 use Rattle.rings.specs.Faults.{raised}
 use Rattle.rings.specs.Model.{RingModel, Order, in-order, Laws, Lawful, if-in-order, clip, code, size-of, one-of, sum, opposite, product}
 use Rattle.rings.specs.Duals.{order-over, dual-order, side, join, dual}
+use Rattle.rings.proofs.Refused.{not-ok}
 use Rattle.rings.proofs.Total.{total, size-off, size-pos, one-below, sum-below, opposite-below, product-below, code-is}
 use Rattle.rings.proofs.Rules.{sum-zero, zero-product, expand}
 
 -- ---- a dual ring in order is over a ring in order, of size at most 2^31
 
-not-ok : {A : Type 0} (fault : RingFault) → _≡_ {A = Order} (Err fault) in-order → A
-not-ok fault e = absurd (let z : _≡_ {A = ℕ} 0 1 = cc in omega arith)
-
 small : (s : ℕ) (t : Bool) → leb s (2 ^ 31) ≡ t → cond t in-order (Err (TooLarge 0)) ≡ in-order → s ≤ 2 ^ 31
 small s true q e = leb-true s (2 ^ 31) q
-small s false q e = not-ok (TooLarge 0) e
+small s false q e = not-ok (TooLarge 0) tt e
 
 over-ok : (o : Order) (s : ℕ) → order-over o s ≡ in-order → (o ≡ in-order) × (s ≤ 2 ^ 31)
 over-ok (Ok u) s e = (refl, small s (leb s (2 ^ 31)) refl e)
-over-ok (Err fault) s e = not-ok (raised fault) e
+over-ok (Err fault) s e = not-ok (raised fault) tt e
 
 -- ---- a + s × b has a and b as its parts
 

@@ -1,3 +1,4 @@
+pub mod Refused
 pub mod Total
 pub mod Rules
 pub mod Remainders

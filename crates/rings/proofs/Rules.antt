@@ -1,15 +1,12 @@
 -- Consequences of the laws at all numbers.
 use mathlib.Core.Path.{_≡_, sym, ap, ap₂, _∙_}
 use Prim.Native.Nat.{ℕ}
-use Rattle.rings.specs.Model.{RingModel, code, one-of, sum, opposite, product}
+use Rattle.rings.specs.Model.{RingModel, code, sum, opposite, product}
 use Rattle.rings.specs.Total.{Total}
 
 module _ {m : RingModel} (t : Total m) where
   pub sum-zero : (x : ℕ) → sum m x 0 ≡ code m x
   sum-zero x = t .sum-comm x 0 ∙ t .zero-sum x
-
-  pub product-one : (x : ℕ) → product m x (one-of m) ≡ code m x
-  product-one x = t .product-comm x (one-of m) ∙ t .one-product x
 
   pub sum-product : (x y z : ℕ) → product m (sum m x y) z ≡ sum m (product m x z) (product m y z)
   sum-product x y z = t .product-comm (sum m x y) z ∙ t .product-sum z x y ∙ ap₂ (sum m) (t .product-comm z x) (t .product-comm z y)
