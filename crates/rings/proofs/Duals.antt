@@ -30,7 +30,7 @@ over-ok (Err fault) s e = not-ok (raised fault) tt e
 -- ---- a + s × b has a and b as its parts
 
 module _ (s a b : ℕ) (h : a < s) where
-  first-join : join s a b % s ≡ a
+  pub first-join : join s a b % s ≡ a
   first-join = add-mul-mod-self-left a s b ∙ mod-eq-of-lt h
 
   second-join : join s a b / s ≡ b
@@ -42,7 +42,7 @@ module _ (s a b : ℕ) (h : a < s) where
 -- ---- the laws
 
 module _ (b : RingModel) (lawful : Lawful b) (on : dual-order b ≡ in-order) where
-  below-on : b .order ≡ in-order
+  pub below-on : b .order ≡ in-order
   below-on = over-ok (b .order) (size-of b) on .0
 
   side-le : size-of b ≤ 2 ^ 31

@@ -5,7 +5,7 @@ use lib.Bits.{bitXor}
 use Rattle.std.specs.declared.result.Result.{Result}
 use Rattle.std.specs.declared.result.Result.the-variants.{Ok, Err}
 use Rattle.binary.specs.Words.{HasDegree}
-use Rattle.binary.specs.Codes.{product as product-modulo}
+unfoldable pub use Rattle.binary.specs.Codes.{product as product-modulo}
 use Rattle.rings.specs.declared.fault.RingFault.{RingFault}
 use Rattle.rings.specs.declared.fault.RingFault.the-variants.{Polynomial}
 use Rattle.rings.specs.Model.{RingModel, in-order}

@@ -4,12 +4,13 @@ use mathlib.Core.Bool.{Bool, true, false, cond, _&&_}
 use Prim.Native.Nat.{ℕ, _≤_, _<_}
 use lib.Dec.{leb, ltb}
 use borrow.Author.Tests.{leb-true, ltb-true}
+use Rattle.std.specs.declared.result.Result.{Result}
 use Rattle.std.specs.declared.result.Result.the-variants.{Ok, Err}
 use Rattle.rings.proofs.Refused.{not-ok}
 use Rattle.rings.specs.Model.{RingModel, Order, in-order, size-of}
 use Rattle.series.specs.declared.fault.TableFault.{TableFault}
 use Rattle.series.specs.declared.fault.TableFault.the-variants.{Ring, Base, Length, Memory}
-use Rattle.series.specs.Refusals.{Admission, admission, admitted, RefusedWith}
+use Rattle.series.specs.Refusals.{Admission, admission, admitted, RefusedWith, Attempt}
 
 -- the ring is in order, q is a code, and the length is 1 to 64
 pub record Admits (m : RingModel) (q N : ℕ) : Type 0 where
@@ -41,3 +42,8 @@ for-memory r e = subst (λ x. RefusedWith x Memory) (sym e) refl
 -- the fault that decides
 pub decides : (r : Admission) (fault : TableFault) → r ≡ Err fault → RefusedWith r fault
 decides r fault e = subst (λ x. RefusedWith x fault) (sym e) refl
+
+-- what follows from a thing that was made follows from the attempt
+pub attempted : {A : Type 0} (m : RingModel) (q N : ℕ) (P Q : A → Type 0) → ((a : A) → P a → Q a) → (r : Result A TableFault) → Attempt m q N P r → Attempt m q N Q r
+attempted m q N P Q f (Ok a) h = (h .0, f a (h .1))
+attempted m q N P Q f (Err fault) h = h

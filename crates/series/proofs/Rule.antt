@@ -19,7 +19,7 @@ module _ (m : RingModel) (q : ℕ) where
       (ap (W (n - 1)) {x = suc i - 1} {y = i} (omega arith) ∙ only-gauss W h i (suc j) (n - 1) (omega arith))
       (only-gauss W h (suc i) j (n - 1) (omega arith))
 
-  last-one : (n : ℕ) → gauss m q n 0 ≡ one-of m
+  pub last-one : (n : ℕ) → gauss m q n 0 ≡ one-of m
   unfolding gauss
   last-one zero = refl
   last-one (suc n) = refl

@@ -1,15 +1,14 @@
 -- Sums of elements, and what a term of a product looks at.
-use mathlib.Core.Path.{_≡_, sym, ap, ap₂, _∙_}
+use mathlib.Core.Path.{_≡_, refl, sym, ap, ap₂, _∙_}
 use mathlib.Core.List.{List}
 use Prim.Native.Nat.{ℕ, zero, suc, _+_, _-_, _≤_, _<_}
 use native.Mathlib.Numerals.{add-one}
 use native.Mathlib.Omega.{arith}
-use lib.ListN.{length, getD}
 use Rattle.rings.specs.Model.{RingModel, code, sum, product}
 use Rattle.rings.specs.Total.{Total}
 use Rattle.series.specs.Weights.{weight, Tabulates}
 use Rattle.series.specs.Series.{Series, sum-to, weighted, times}
-use Rattle.series.specs.Terms.{listed, standing, Enough}
+use Rattle.series.specs.Terms.{listed, Begins, standing, Enough}
 
 -- the sum of the first k terms, as a loop makes it from 0
 unfoldable pub sum-of : RingModel → ℕ → (ℕ → ℕ) → ℕ
@@ -47,9 +46,18 @@ unfolding weighted
 weighted-cong m V W A A′ B B′ n w a b =
     sum-cong m n _ _ (λ k le. ap₂ (product m) (ap₂ (product m) (w k le) (a k le)) (b (n - k) (omega arith)))
 
+pub times-cong : (m : RingModel) (q : ℕ) (A A′ B B′ : Series) (n : ℕ) → ((i : ℕ) → i ≤ n → A i ≡ A′ i) → ((i : ℕ) → i ≤ n → B i ≡ B′ i) → times m q A B n ≡ times m q A′ B′ n
+unfolding times
+times-cong m q A A′ B B′ n = weighted-cong m (weight m q) (weight m q) A A′ B B′ n (λ k le. refl)
+
+-- a term of a product is an element
+pub times-code : (m : RingModel) → Total m → (q : ℕ) (A B : Series) (n : ℕ) → code m (times m q A B n) ≡ times m q A B n
+unfolding times weighted
+times-code m t q A B n = sum-code m t n _ (λ k. t .code-product _ _)
+
 -- with the weights of q in the cells it is a term of the product at q
 pub weighted-times : (m : RingModel) (q N : ℕ) (cells a b : List ℕ) (n : ℕ) → n < N → Tabulates m q N cells → Enough cells a b n
-    → (A B : Series) → ((i : ℕ) → i < length a → A i ≡ getD a i 0) → ((i : ℕ) → i < length b → B i ≡ getD b i 0)
+    → (A B : Series) → Begins a A → Begins b B
     → weighted m (standing cells) (listed a) (listed b) n ≡ times m q A B n
 unfolding times
 weighted-times m q N cells a b n h t enough A B p r =

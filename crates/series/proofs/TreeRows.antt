@@ -5,27 +5,17 @@ use Prim.Native.Nat.{ℕ, zero, suc, _+_, _≤_, _<_}
 use native.Mathlib.Decide.{decLe}
 use native.Mathlib.Omega.{arith}
 use Rattle.std.proofs.shelf.Lists.{getD-append-left, getD-push, length-push}
-use Rattle.rings.specs.Model.{RingModel, Lawful, in-order, code, size-of, one-of, product}
+use Rattle.rings.specs.Model.{RingModel, Lawful, in-order, code, size-of, one-of}
 use Rattle.rings.specs.Total.{Total}
 use Rattle.rings.proofs.Total.{total, one-below, code-size}
 use Rattle.rings.proofs.Rules.{sum-zero}
-use Rattle.series.specs.Weights.{weight}
-use Rattle.series.specs.Series.{Series, weighted, times, plus, ones, number, bracket}
+use Rattle.series.specs.Series.{Series, times, plus, ones, number, bracket}
 use Rattle.series.specs.Terms.{listed}
 use Rattle.series.specs.Trees.{HoldsAt, IsTreeRow}
-use Rattle.series.proofs.Sums.{sum-code, weighted-cong}
+use Rattle.series.proofs.Sums.{times-cong, times-code}
 
 module _ (m : RingModel) (q : ℕ) where
-  -- the product of a series with itself looks at the terms up to the index
-  square-same : (A B : Series) (n : ℕ) → ((i : ℕ) → i ≤ n → A i ≡ B i) → times m q A A n ≡ times m q B B n
-  unfolding times
-  square-same A B n h = weighted-cong m (weight m q) (weight m q) A B A B n (λ k le. refl) h h
-
   module _ (t : Total m) where
-    times-code : (A B : Series) (n : ℕ) → code m (times m q A B n) ≡ times m q A B n
-    unfolding times weighted
-    times-code A B n = sum-code m t n _ (λ k. t .code-product _ _)
-
     -- the right side at index 0, and at a later one
     right-first : (A : Series) → plus m (number m 1) (bracket A) 0 ≡ one-of m
     unfolding plus number bracket ones
@@ -40,7 +30,7 @@ module _ (m : RingModel) (q : ℕ) where
     holds-same A B zero h e = sym (h 0 (omega arith)) ∙ e ∙ right-first (times m q A A) ∙ sym (right-first (times m q B B))
     holds-same A B (suc n) h e =
         sym (h (suc n) (omega arith)) ∙ e ∙ right-later (times m q A A) n
-        ∙ ap (code m) (square-same A B n (λ i le. h i (omega arith))) ∙ sym (right-later (times m q B B) n)
+        ∙ ap (code m) (times-cong m q A B A B n (λ i le. h i (omega arith)) (λ i le. h i (omega arith))) ∙ sym (right-later (times m q B B) n)
 
   module _ (lawful : Lawful m) (on : m .order ≡ in-order) where
     -- B_0 = 1
@@ -58,7 +48,7 @@ module _ (m : RingModel) (q : ℕ) where
         let old : (i : ℕ) → i ≤ n → listed row i ≡ listed (row ++ b ∷ []) i =
         λ i le. sym (getD-append-left row (b ∷ []) 0 i (let e = tree .count in omega arith)) in
         let new : listed (row ++ b ∷ []) (n + 1) ≡ b = getD-push row b 0 (n + 1) (tree .count) in
-        let coded : code m b ≡ b = subst (λ (x : ℕ). code m x ≡ x) (sym is) (times-code t (listed row) (listed row) n) in
+        let coded : code m b ≡ b = subst (λ (x : ℕ). code m x ≡ x) (sym is) (times-code m t q (listed row) (listed row) n) in
         record {
           count = length-push row b ∙ ap (λ (x : ℕ). x + 1) (tree .count);
           codes = λ i h.
@@ -74,7 +64,7 @@ module _ (m : RingModel) (q : ℕ) where
                 | no gt ↦
                     let e : i ≡ suc n = omega (arith, gt) in
                     let s : n + 1 ≡ suc n = omega arith in
-                    rw e (ap (listed (row ++ b ∷ [])) (sym s) ∙ new ∙ is ∙ square-same (listed row) (listed (row ++ b ∷ [])) n old
-                    ∙ sym (right-later t (times m q (listed (row ++ b ∷ [])) (listed (row ++ b ∷ []))) n ∙ times-code t _ _ n))
+                    rw e (ap (listed (row ++ b ∷ [])) (sym s) ∙ new ∙ is ∙ times-cong m q (listed row) (listed (row ++ b ∷ [])) (listed row) (listed (row ++ b ∷ [])) n old old
+                    ∙ sym (right-later t (times m q (listed (row ++ b ∷ [])) (listed (row ++ b ∷ []))) n ∙ times-code m t q _ _ n))
               ];
         }

@@ -1,6 +1,6 @@
 -- Formal series over a ring and their operations.
 use Prim.Native.Nat.{ℕ, zero, suc, _-_}
-use Rattle.rings.specs.Model.{RingModel, one-of, sum, product}
+use Rattle.rings.specs.Model.{RingModel, one-of, sum, opposite, product}
 use Rattle.series.specs.Weights.{weight}
 
 -- an endless list of elements: the term at each index
@@ -29,6 +29,10 @@ times m q A B n = weighted m (weight m q) A B n
 -- A + B, term by term
 unfoldable pub plus : RingModel → Series → Series → Series
 plus m A B n = sum m (A n) (B n)
+
+-- A − B, term by term: the sum with the opposite
+unfoldable pub minus : RingModel → Series → Series → Series
+minus m A B n = sum m (A n) (opposite m (B n))
 
 -- k ones added up
 unfoldable pub ones : RingModel → ℕ → ℕ

@@ -13,6 +13,10 @@ use Rattle.series.specs.Series.{Series, weighted, times}
 abbrev pub listed : List ℕ → Series
 listed row i = getD row i 0
 
+-- the series begins with the row
+abbrev pub Begins : List ℕ → Series → Type 0
+Begins row A = (i : ℕ) → i < length row → A i ≡ getD row i 0
+
 -- the weights that stand in the cells, row after row
 abbrev pub standing : List ℕ → ℕ → ℕ → ℕ
 standing cells n k = getD cells (place n k) 0
@@ -32,5 +36,5 @@ GivesTerm m cells a b n None = ¬ (Enough cells a b n)
 -- with the weights of q in the cells, an answer is term n of the product of every two series that begin with the rows
 abbrev pub GivesProduct : RingModel → List ℕ → List ℕ → List ℕ → ℕ → Option ℕ → Type 0
 GivesProduct m cells a b n (Some t) =
-    (q N : ℕ) → n < N → Tabulates m q N cells → (A B : Series) → ((i : ℕ) → i < length a → A i ≡ getD a i 0) → ((i : ℕ) → i < length b → B i ≡ getD b i 0) → t ≡ times m q A B n
+    (q N : ℕ) → n < N → Tabulates m q N cells → (A B : Series) → Begins a A → Begins b B → t ≡ times m q A B n
 GivesProduct m cells a b n None = Unit {0}

@@ -1,0 +1,17 @@
+pub mod RingRules
+pub mod Numbers
+pub mod WeightLaws
+pub mod Splits
+pub mod SeriesLaws
+pub mod Maps
+pub mod Standing
+pub mod Causal
+pub mod Unique
+pub mod Existence
+pub mod Sound
+pub mod Carried
+pub mod Theorems
+pub mod Scanned
+pub mod Solved
+pub mod Worked
+pub mod FirstParts

@@ -1,0 +1,13 @@
+pub mod Families
+pub mod Products
+pub mod WeightLaws
+pub mod SeriesRing
+pub mod Trees
+pub mod Values
+pub mod Solving
+pub mod Rearranging
+pub mod Carrying
+pub mod Kinds
+pub mod Solutions
+pub mod Examples
+pub mod FirstParts

@@ -1,0 +1,69 @@
+-- Right sides as trees, equations and systems, and which letters stand where.
+use mathlib.Core.Path.{_≡_}
+use mathlib.Core.List.{List, [], _∷_}
+use mathlib.Core.Logic.{_⊎_}
+use Prim.Native.Nat.{ℕ}
+
+-- a right side; unknowns (capitals) and inputs (small letters) are told by their bytes
+pub data Tree : Type 0 where
+  number : ℕ → Tree
+  unknown : ℕ → Tree
+  input : ℕ → Tree
+  sum : Tree → Tree → Tree
+  difference : Tree → Tree → Tree
+  product : Tree → Tree → Tree
+  bracket : Tree → Tree
+
+-- an unknown and its right side
+pub record Equation : Type 0 where
+  pub left : ℕ
+  pub right : Tree
+
+-- the equations, in the order of the text
+abbrev pub System : Type 0
+System = List Equation
+
+-- the unknown a stands in the tree
+abbrev pub UnknownIn : ℕ → Tree → Type 0
+UnknownIn a (number k) = ⊥
+UnknownIn a (unknown b) = a ≡ b
+UnknownIn a (input x) = ⊥
+UnknownIn a (sum s t) = UnknownIn a s ⊎ UnknownIn a t
+UnknownIn a (difference s t) = UnknownIn a s ⊎ UnknownIn a t
+UnknownIn a (product s t) = UnknownIn a s ⊎ UnknownIn a t
+UnknownIn a (bracket s) = UnknownIn a s
+
+-- the unknown a stands in the tree outside all brackets
+abbrev pub BareIn : ℕ → Tree → Type 0
+BareIn a (number k) = ⊥
+BareIn a (unknown b) = a ≡ b
+BareIn a (input x) = ⊥
+BareIn a (sum s t) = BareIn a s ⊎ BareIn a t
+BareIn a (difference s t) = BareIn a s ⊎ BareIn a t
+BareIn a (product s t) = BareIn a s ⊎ BareIn a t
+BareIn a (bracket s) = ⊥
+
+-- the input x stands in the tree
+abbrev pub InputIn : ℕ → Tree → Type 0
+InputIn x (number k) = ⊥
+InputIn x (unknown b) = ⊥
+InputIn x (input y) = x ≡ y
+InputIn x (sum s t) = InputIn x s ⊎ InputIn x t
+InputIn x (difference s t) = InputIn x s ⊎ InputIn x t
+InputIn x (product s t) = InputIn x s ⊎ InputIn x t
+InputIn x (bracket s) = InputIn x s
+
+-- e is one of the equations
+abbrev pub EquationOf : Equation → System → Type 0
+EquationOf e [] = ⊥
+EquationOf e (d ∷ S) = (e ≡ d) ⊎ EquationOf e S
+
+-- a is the left side of one of the equations
+abbrev pub UnknownOf : ℕ → System → Type 0
+UnknownOf a [] = ⊥
+UnknownOf a (e ∷ S) = (a ≡ e .left) ⊎ UnknownOf a S
+
+-- x stands on the right side of one of the equations
+abbrev pub InputOf : ℕ → System → Type 0
+InputOf x [] = ⊥
+InputOf x (e ∷ S) = InputIn x (e .right) ⊎ InputOf x S
