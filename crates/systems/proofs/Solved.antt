@@ -2,8 +2,10 @@
 use mathlib.Core.Path.{_≡_, refl, sym, subst}
 use mathlib.Core.List.{List}
 use mathlib.Core.Logic.{inl, inr}
+use mathlib.Core.Bool.{false}
 use Prim.Native.Nat.{ℕ, _≤_, _<_}
 use native.Mathlib.Omega.{arith}
+use Rattle.std.proofs.shelf.Tests.{both-ways}
 use lib.ListN.{length}
 use Rattle.rings.specs.Model.{RingModel}
 use Rattle.series.specs.Terms.{listed}
@@ -14,7 +16,7 @@ use Rattle.systems.specs.Values.{value, HoldsAt, SatisfiesBelow}
 use Rattle.systems.specs.Solving.{Solvable}
 use Rattle.systems.specs.Solutions.{B, IsRow, binary-trees, unfed}
 use Rattle.systems.proofs.Unique.{unique}
-use Rattle.systems.proofs.Scanned.{solvable}
+use Rattle.systems.proofs.Scanned.{solvable, tested}
 
 -- the rows for the letters, as a family
 abbrev pub rowed : (ℕ → List ℕ) → Family
@@ -34,12 +36,10 @@ row-is m q N X fed rows letter ok known count enough holds = record {
 -- ---- the binary trees
 
 pub trees-solvable : Solvable binary-trees
-trees-solvable =
-    solvable binary-trees ((λ h. h), (λ a h. elim h [ inl w ↦ w | inr w ↦ w ]), tt)
-    ((λ a h. elim h [ inl w ↦ absurd w | inr w ↦ elim w [ inl p ↦ inl p | inr p ↦ inl p ] ]), tt)
+trees-solvable = solvable (λ x. false) binary-trees refl
 
-pub none-in-trees : (x : ℕ) → ¬ (InputOf x binary-trees)
-none-in-trees x h = elim h [ inl w ↦ elim w [ inl v ↦ v | inr v ↦ elim v [ inl z ↦ z | inr z ↦ z ] ] | inr w ↦ w ]
+no-inputs : (x : ℕ) → ¬ (InputOf x binary-trees)
+no-inputs x h = both-ways false refl (tested (λ y. false) binary-trees refl x h)
 
 module _ (m : RingModel) (q N : ℕ) (row : List ℕ) (tree : IsTreeRow m q N row) where
   satisfied : SatisfiesBelow m q N binary-trees (rowed unfed) (rowed (λ _. row))
@@ -48,4 +48,4 @@ module _ (m : RingModel) (q N : ℕ) (row : List ℕ) (tree : IsTreeRow m q N ro
   satisfied e (inr h) i l = absurd h
 
   pub tree-row : IsRow m q N binary-trees unfed B row
-  tree-row = row-is m q N binary-trees unfed (λ _. row) B trees-solvable (inl refl) (tree .count) (λ x h. absurd (none-in-trees x h)) satisfied
+  tree-row = row-is m q N binary-trees unfed (λ _. row) B trees-solvable (inl refl) (tree .count) (λ x h. absurd (no-inputs x h)) satisfied

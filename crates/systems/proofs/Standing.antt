@@ -9,16 +9,16 @@ use lib.ListN.{length}
 use Rattle.systems.specs.Trees.{Tree, number, unknown, input, sum, difference, product, bracket, Equation, System, UnknownIn, BareIn, InputIn, EquationOf, UnknownOf, InputOf}
 use Rattle.systems.specs.Solving.{Stands}
 
-both : {A B C D : Type 0} → (A → C) → (B → D) → A ⊎ B → C ⊎ D
-both f g h = elim h [ inl a ↦ inl (f a) | inr b ↦ inr (g b) ]
+either-way : {A B C D : Type 0} → (A → C) → (B → D) → A ⊎ B → C ⊎ D
+either-way f g h = elim h [ inl a ↦ inl (f a) | inr b ↦ inr (g b) ]
 
 pub bare-is-in : (t : Tree) (a : ℕ) → BareIn a t → UnknownIn a t
 bare-is-in (number k) a h = h
 bare-is-in (unknown b) a h = h
 bare-is-in (input x) a h = h
-bare-is-in (sum s t) a h = both (bare-is-in s a) (bare-is-in t a) h
-bare-is-in (difference s t) a h = both (bare-is-in s a) (bare-is-in t a) h
-bare-is-in (product s t) a h = both (bare-is-in s a) (bare-is-in t a) h
+bare-is-in (sum s t) a h = either-way (bare-is-in s a) (bare-is-in t a) h
+bare-is-in (difference s t) a h = either-way (bare-is-in s a) (bare-is-in t a) h
+bare-is-in (product s t) a h = either-way (bare-is-in s a) (bare-is-in t a) h
 bare-is-in (bracket s) a h = absurd h
 
 either : {A B : Type 0} → Dec A → Dec B → Dec (A ⊎ B)

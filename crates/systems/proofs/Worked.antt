@@ -1,11 +1,13 @@
 -- The examples, worked out.
 use mathlib.Core.Path.{_≡_, refl, sym, subst}
-use mathlib.Core.Bool.{cond}
+use mathlib.Core.Bool.{Bool, true, cond, _&&_}
 use mathlib.Core.List.{List, [], _∷_}
 use mathlib.Core.Logic.{inl, inr}
-use Prim.Native.Nat.{ℕ, zero, suc, _+_, _≤_, _<_}
+use Prim.Native.Nat.{ℕ, zero, suc, _<_}
+use native.Mathlib.Decide.{decLe}
 use native.Mathlib.Omega.{arith}
-use lib.Dec.{eqb, lit<}
+use lib.Dec.{eqb, leb}
+use Rattle.std.proofs.shelf.Tests.{and-parts, both-ways, eq-eqb, eqb-true, leb-true}
 use lib.ListN.{length}
 use Rattle.rings.specs.Model as Model
 use Rattle.rings.specs.Model.{RingModel}
@@ -15,9 +17,8 @@ use Rattle.rings.specs.Duals.{dual}
 use Rattle.series.specs.Weights.{weight}
 use Rattle.series.specs.Series.{times, plus, bracket}
 use Rattle.series.specs.Series as Series
-use Rattle.series.specs.Terms.{listed}
 use Rattle.systems.specs.Families.{Family}
-use Rattle.systems.specs.Trees.{number, difference, Equation, System, UnknownOf, InputOf}
+use Rattle.systems.specs.Trees.{number, difference, Equation, System}
 use Rattle.systems.specs.Rearranging.{
   less-is,
   less-itself,
@@ -35,121 +36,71 @@ use Rattle.systems.specs.Rearranging.{
   right-side,
 }
 use Rattle.systems.specs.Values.{value, HoldsAt, SatisfiesBelow}
-use Rattle.systems.specs.Solving.{Solvable}
-use Rattle.systems.specs.Solutions.{A, B, S, T, u, IsRow, binary-trees, unfed}
-use Rattle.systems.specs.Examples.{marked-trees, tangents-and-secants, only-zeros, eleven, question, answer, Answers, WorkedOut}
+use Rattle.systems.specs.Solutions.{A, B, E, T, equals}
+use Rattle.systems.specs.Examples.{Question, question, answer, Answers, WorkedOut}
 use Rattle.systems.specs.declared.examples.Example.{Example}
-use Rattle.systems.specs.declared.examples.Example.the-variants.{Catalan, Factorials, AtTwo, OverPolynomials, Marked, Tangents, Secants, Zeros}
-use Rattle.systems.proofs.Scanned.{solvable}
-use Rattle.systems.proofs.Solved.{rowed, row-is, trees-solvable, none-in-trees}
+use Rattle.systems.specs.declared.examples.Example.the-variants.{Catalan, Factorials, AtTwo, OverPolynomials, Marked, Tangents, Secants, Bell, Zeros, Copied}
+use Rattle.systems.proofs.Scanned.{known, known-is, scan, solvable, tested}
+use Rattle.systems.proofs.Solved.{rowed, row-is}
 
--- k facts, from an index on
-abbrev pub Facts : (ℕ → Type 0) → ℕ → ℕ → Type 0
-Facts P i zero = Unit {0}
-Facts P i (suc k) = P i × Facts P (suc i) k
+-- a test at the indices below k
+abbrev below : (ℕ → Bool) → ℕ → Bool
+below f zero = true
+below f (suc k) = below f k && f k
 
-fact : (P : ℕ → Type 0) (k i j n : ℕ) → Facts P i k → i + j ≡ n → j < k → P n
-fact P zero i j n h e l = absurd (omega arith)
-fact P (suc k) i zero n h e l = let p : i ≡ n = omega arith in subst P p (h .0)
-fact P (suc k) i (suc j) n h e l = fact P k (suc i) j n (h .1) (omega arith) (omega arith)
+at : (f : ℕ → Bool) (k i : ℕ) → below f k ≡ true → i < k → f i ≡ true
+at f zero i h l = absurd (omega arith)
+at f (suc k) i h l =
+    let p = and-parts _ _ h in
+    elim (decLe k i) [ yes le ↦ let e : k ≡ i = omega arith in subst (λ (j : ℕ). f j ≡ true) e (p .1) | no gt ↦ at f k i (p .0) (omega (arith, gt)) ]
 
--- every equation holds at the indices below N
-abbrev pub Holding : RingModel → ℕ → ℕ → Family → Family → System → Type 0
-Holding m q N I F [] = Unit {0}
-Holding m q N I F (e ∷ rest) = Facts (HoldsAt m q I F e) 0 N × Holding m q N I F rest
+-- whether every equation holds at the indices below N
+abbrev equations : RingModel → ℕ → ℕ → Family → Family → System → Bool
+equations m q N I F [] = true
+equations m q N I F (e ∷ X) = below (λ i. eqb (F (e .left) i) (value m q I F (e .right) i)) N && equations m q N I F X
 
-holding : (m : RingModel) (q N : ℕ) (I F : Family) (X : System) → Holding m q N I F X → SatisfiesBelow m q N X I F
+holding : (m : RingModel) (q N : ℕ) (I F : Family) (X : System) → equations m q N I F X ≡ true → SatisfiesBelow m q N X I F
 holding m q N I F [] h e w i l = absurd w
-holding m q N I F (d ∷ rest) h e (inl p) i l = subst (λ (c : Equation). HoldsAt m q I F c i) (sym p) (fact (HoldsAt m q I F d) N 0 i i (h .0) (omega arith) l)
-holding m q N I F (d ∷ rest) h e (inr w) i l = holding m q N I F rest (h .1) e w i l
+holding m q N I F (d ∷ X) h e (inl p) i l =
+    subst (λ (c : Equation). HoldsAt m q I F c i) (sym p) (eqb-true _ _ (at (λ j. eqb (F (d .left) j) (value m q I F (d .right) j)) N i (and-parts _ _ h .0) l))
+holding m q N I F (d ∷ X) h e (inr w) i l = holding m q N I F X (and-parts _ _ h .1) e w i l
 
--- rows whose equations hold by computation begin the only solution
-computed : (m : RingModel) (q N : ℕ) (X : System) (fed rows : ℕ → List ℕ) (letter : ℕ) → Solvable X → UnknownOf letter X → length (rows letter) ≡ N
-    → ((x : ℕ) → InputOf x X → N ≤ length (fed x)) → Holding m q N (rowed fed) (rowed rows) X → IsRow m q N X fed letter (rows letter)
-computed m q N X fed rows letter ok known count enough holds = row-is m q N X fed rows letter ok known count enough (holding m q N (rowed fed) (rowed rows) X holds)
+-- rows answer an example if the system meets the side conditions, each input was fed eight coefficients, the letter is an unknown, its
+-- row has eight terms, and the equations hold below 8: all of it decided by computation
+abbrev right : Question → (ℕ → List ℕ) → Bool
+right p rows =
+    scan (λ x. leb 8 (length (p .fed x))) (p .system) [] (p .system)
+    && (known (p .letter) (p .system) && (eqb (length (rows (p .letter))) 8 && equations (p .ring) (p .base) 8 (rowed (p .fed)) (rowed rows) (p .system)))
 
--- ---- the systems of the examples are solvable; where they have inputs, these were fed eight coefficients
+by-rows : (p : Question) (rows : ℕ → List ℕ) → right p rows ≡ true → Answers p (rows (p .letter))
+by-rows p rows h =
+    let fed : ℕ → Bool = λ x. leb 8 (length (p .fed x)) in
+    let first = and-parts _ _ h in
+    let second = and-parts _ _ (first .1) in
+    let third = and-parts _ _ (second .1) in
+    row-is (p .ring) (p .base) 8 (p .system) (p .fed) rows (p .letter) (solvable fed (p .system) (first .0)) (known-is (p .letter) (p .system) (second .0))
+    (eqb-true _ 8 (third .0)) (λ x w. leb-true 8 _ (tested fed (p .system) (first .0) x w))
+    (holding (p .ring) (p .base) 8 (rowed (p .fed)) (rowed rows) (p .system) (third .1))
 
-apart : (i j : ℕ) → i < j → ¬ (i ≡ j)
-apart i j l p = omega arith
+-- the rows of systems with two unknowns
+tangent-rows : ℕ → List ℕ
+tangent-rows letter = cond (eqb letter T) (answer Tangents) (answer Secants)
 
-marked-solvable : Solvable marked-trees
-marked-solvable =
-    solvable marked-trees ((λ h. h), (λ a h. elim h [ inl w ↦ w | inr w ↦ w ]), tt)
-    ((λ a h. elim h [ inl w ↦ absurd w | inr w ↦ elim w [ inl v ↦ elim v [ inl p ↦ absurd p | inr p ↦ inl p ] | inr p ↦ inl p ] ]), tt)
-
-tangents-solvable : Solvable tangents-and-secants
-tangents-solvable =
-    solvable tangents-and-secants
-    ((λ h. h), (λ a h. absurd h), ((λ h. elim h [ inl p ↦ apart S T (lit< tt) p | inr w ↦ w ]), (λ a h. elim h [ inl w ↦ absurd w | inr w ↦ absurd w ]), tt)) (
-      (λ a h. elim h [ inl w ↦ absurd w | inr w ↦ elim w [ inl p ↦ inl p | inr p ↦ inl p ] ]),
-      ((λ a h. elim h [ inl w ↦ absurd w | inr w ↦ elim w [ inl p ↦ inr (inl p) | inr p ↦ inl p ] ]), tt),
-    )
-
-zeros-solvable : Solvable only-zeros
-zeros-solvable = solvable only-zeros ((λ h. h), (λ a h. absurd h), tt) ((λ a h. inl h), tt)
-
-none-in-tangents : (x : ℕ) → ¬ (InputOf x tangents-and-secants)
-none-in-tangents x h =
-    elim h [
-      | inl w ↦ elim w [ inl v ↦ v | inr v ↦ elim v [ inl z ↦ z | inr z ↦ z ] ]
-      | inr r ↦ elim r [ inl w ↦ elim w [ inl v ↦ v | inr v ↦ elim v [ inl z ↦ z | inr z ↦ z ] ] | inr w ↦ w ]
-    ]
-
-none-in-zeros : (x : ℕ) → ¬ (InputOf x only-zeros)
-none-in-zeros x h = elim h [ inl w ↦ w | inr w ↦ w ]
-
-marked-by : (x : ℕ) → InputOf x marked-trees → x ≡ u
-marked-by x h =
-    elim h [
-      | inl w ↦ elim w [ inl v ↦ absurd v | inr v ↦ elim v [ inl z ↦ elim z [ inl p ↦ p | inr p ↦ absurd p ] | inr z ↦ absurd z ] ]
-      | inr w ↦ absurd w
-    ]
-
-eight : 8 ≤ length (eleven u)
-eight = omega arith
-
--- ---- rows of eight terms that satisfy the equations
-
-module _ (m : RingModel) (q : ℕ) (row : List ℕ) (count : length row ≡ 8) where
-  trees-row : Holding m q 8 (rowed unfed) (λ _. listed row) binary-trees → IsRow m q 8 binary-trees unfed B row
-  trees-row = computed m q 8 binary-trees unfed (λ _. row) B trees-solvable (inl refl) count (λ x h. absurd (none-in-trees x h))
-
-  marked-row : Holding m q 8 (rowed eleven) (λ _. listed row) marked-trees → IsRow m q 8 marked-trees eleven B row
-  marked-row = computed m q 8 marked-trees eleven (λ _. row) B marked-solvable (inl refl) count (λ x h. subst (λ (y : ℕ). 8 ≤ length (eleven y)) (sym (marked-by x h)) eight)
-
-  zeros-row : Holding m q 8 (rowed unfed) (λ _. listed row) only-zeros → IsRow m q 8 only-zeros unfed A row
-  zeros-row = computed m q 8 only-zeros unfed (λ _. row) A zeros-solvable (inl refl) count (λ x h. absurd (none-in-zeros x h))
-
--- the rows of the tangents and of the secants
-by-letter : ℕ → List ℕ
-by-letter letter = cond (eqb letter T) (answer Tangents) (answer Secants)
-
-module _ (holds : Holding (residues 1000) 1 8 (rowed unfed) (rowed by-letter) tangents-and-secants) where
-  tangents-row : Answers (question Tangents) (answer Tangents)
-  unfolding by-letter
-  tangents-row = computed (residues 1000) 1 8 tangents-and-secants unfed by-letter T tangents-solvable (inl refl) refl (λ x w. absurd (none-in-tangents x w)) holds
-
-  secants-row : Answers (question Secants) (answer Secants)
-  unfolding by-letter
-  secants-row = computed (residues 1000) 1 8 tangents-and-secants unfed by-letter S tangents-solvable (inr (inl refl)) refl (λ x w. absurd (none-in-tangents x w)) holds
-
--- ---- the examples, by computation
-
-both-hold : Holding (residues 1000) 1 8 (rowed unfed) (rowed by-letter) tangents-and-secants
-unfolding by-letter value times plus Series.number bracket weight residues Model.size-of Model.one-of Model.code Model.sum Model.product
-both-hold = ((refl, (refl, (refl, (refl, (refl, (refl, (refl, (refl, tt)))))))), ((refl, (refl, (refl, (refl, (refl, (refl, (refl, (refl, tt)))))))), tt))
+partition-rows : ℕ → List ℕ
+partition-rows letter = cond (eqb letter E) (1 ∷ 1 ∷ 1 ∷ 1 ∷ 1 ∷ 1 ∷ 1 ∷ 1 ∷ []) (answer Bell)
 
 answered : (example : Example) → Answers (question example) (answer example)
-unfolding value times plus Series.number bracket weight residues polynomials product-modulo dual Model.size-of Model.one-of Model.code Model.sum Model.product
-answered Catalan = trees-row (residues 1000) 0 (answer Catalan) refl ((refl, (refl, (refl, (refl, (refl, (refl, (refl, (refl, tt)))))))), tt)
-answered Factorials = trees-row (residues 1000) 1 (answer Factorials) refl ((refl, (refl, (refl, (refl, (refl, (refl, (refl, (refl, tt)))))))), tt)
-answered AtTwo = trees-row (residues 1000) 2 (answer AtTwo) refl ((refl, (refl, (refl, (refl, (refl, (refl, (refl, (refl, tt)))))))), tt)
-answered OverPolynomials = trees-row (polynomials 7 2) 2 (answer OverPolynomials) refl ((refl, (refl, (refl, (refl, (refl, (refl, (refl, (refl, tt)))))))), tt)
-answered Marked = marked-row (dual (residues 10)) 1 (answer Marked) refl ((refl, (refl, (refl, (refl, (refl, (refl, (refl, (refl, tt)))))))), tt)
-answered Tangents = tangents-row both-hold
-answered Secants = secants-row both-hold
-answered Zeros = zeros-row (residues 1000) 0 (answer Zeros) refl ((refl, (refl, (refl, (refl, (refl, (refl, (refl, (refl, tt)))))))), tt)
+unfolding tangent-rows partition-rows value times plus Series.number bracket weight residues polynomials product-modulo dual Model.size-of Model.one-of Model.code Model.sum Model.product
+answered Catalan = by-rows (question Catalan) (λ _. answer Catalan) refl
+answered Factorials = by-rows (question Factorials) (λ _. answer Factorials) refl
+answered AtTwo = by-rows (question AtTwo) (λ _. answer AtTwo) refl
+answered OverPolynomials = by-rows (question OverPolynomials) (λ _. answer OverPolynomials) refl
+answered Marked = by-rows (question Marked) (λ _. answer Marked) refl
+answered Tangents = by-rows (question Tangents) tangent-rows refl
+answered Secants = by-rows (question Secants) tangent-rows refl
+answered Bell = by-rows (question Bell) partition-rows refl
+answered Zeros = by-rows (question Zeros) (λ _. answer Zeros) refl
+answered Copied = by-rows (question Copied) (λ _. answer Copied) refl
 
 -- 2 − 1 = 2 + (0 − 1) = (1 + 1) + (0 − 1) = 1 + (1 + (0 − 1)) = 1 + (1 − 1) = 1 + 0 = 0 + 1 = 1
 two-less-one : Rearranged (difference (number 2) (number 1)) (number 1)
@@ -164,4 +115,8 @@ pub worked-out : WorkedOut
 worked-out = record {
   answers = answered;
   rearranged = right-side B (onward (by-rule (sum-commutes _ _)) (in-sum (unchanged _) (backward two-less-one))) none;
+  by-itself = λ ok. ok .earlier [] _ _ refl A refl;
+  too-early = λ ok. ok .earlier [] _ _ refl A refl;
+  missing = λ ok. elim (ok .complete _ (inl refl) B refl) [ inl p ↦ both-ways (eqb B A) refl (eq-eqb B A p) | inr h ↦ h ];
+  twice = λ ok. ok .one-each (equals A (number 1) ∷ []) _ _ refl (inl refl);
 }

@@ -4,7 +4,7 @@ use mathlib.Core.List.{List, [], _∷_}
 use Prim.Native.Nat.{ℕ}
 use lib.ListN.{length}
 use Rattle.rings.specs.Model.{RingModel}
-use Rattle.systems.specs.Trees.{number, unknown, sum, product, bracket, System}
+use Rattle.systems.specs.Trees.{Tree, number, unknown, sum, product, bracket, Equation, System}
 use Rattle.systems.specs.Solving.{Solvable, FirstTerms}
 
 -- no input has been fed a coefficient
@@ -24,15 +24,25 @@ A = 65
 abbrev pub B : ℕ
 B = 66
 
+abbrev pub E : ℕ
+E = 69
+
 abbrev pub S : ℕ
 S = 83
 
 abbrev pub T : ℕ
 T = 84
 
+abbrev pub Y : ℕ
+Y = 89
+
 abbrev pub u : ℕ
 u = 117
 
+-- the equation of an unknown and a right side
+abbrev pub equals : ℕ → Tree → Equation
+equals letter tree = record { left = letter; right = tree }
+
 -- B = 1 + [B × B]
 abbrev pub binary-trees : System
-binary-trees = record { left = B; right = sum (number 1) (bracket (product (unknown B) (unknown B))) } ∷ []
+binary-trees = equals B (sum (number 1) (bracket (product (unknown B) (unknown B)))) ∷ []
