@@ -14,7 +14,7 @@ use Rattle.systems.specs.Families.{Family}
 use Rattle.systems.specs.Trees.{Equation, System, UnknownOf}
 use Rattle.systems.specs.Values.{value, Satisfies}
 use Rattle.systems.specs.Solving.{Solvable, Stands}
-use Rattle.systems.proofs.Standing.{is-equation, placed, placed-left, moved-on, place-below, still-unknown}
+use Rattle.systems.proofs.Standing.{is-equation, placed, found, moved-on, place-below, still-unknown}
 use Rattle.systems.proofs.Causal.{near}
 
 module _ (m : RingModel) (q : ℕ) (I : Family) where
@@ -55,16 +55,16 @@ module _ (m : RingModel) (q : ℕ) (I : Family) where
         round-at (suc k) before after e n p
         ∙ near m q I I (rounds S (suc k)) (rounds S k) (e .right) n (
           (λ a b i l.
-              let w = placed-left before a (ok .earlier before after e p a b) in
+              let w = found (λ d. a ≡ d .left) before (ok .earlier before after e p a b) in
               let s = place-below (w .before) (w .after) (w .equation) (w .stands) in
               let r = row-le i n l in
-              subst (λ (c : ℕ). rounds S (suc k) c i ≡ rounds S k c i) (w .left-is)
+              subst (λ (c : ℕ). rounds S (suc k) c i ≡ rounds S k c i) (sym (w .has))
               (stable k (w .before) _ (w .equation) i (moved-on before after e p (w .before) (w .after) (w .equation) (w .stands)) (omega arith))),
           (λ a b i l.
-              let w = placed-left S a (ok .complete e (is-equation before after e p) a b) in
+              let w = found (λ d. a ≡ d .left) S (ok .complete e (is-equation before after e p) a b) in
               let s = place-below (w .before) (w .after) (w .equation) (w .stands) in
               let r = row i n l in
-              subst (λ (c : ℕ). rounds S (suc k) c i ≡ rounds S k c i) (w .left-is)
+              subst (λ (c : ℕ). rounds S (suc k) c i ≡ rounds S k c i) (sym (w .has))
               (stable k (w .before) (w .after) (w .equation) i (w .stands) (omega arith))),
           (λ x b i l. refl),
         )
@@ -73,11 +73,11 @@ module _ (m : RingModel) (q : ℕ) (I : Family) where
     stays : (d k a n : ℕ) → UnknownOf a S → suc n * length S ≤ k → rounds S (d + k) a n ≡ rounds S k a n
     stays zero k a n u h = ap (λ (j : ℕ). rounds S j a n) (zero-add k)
     stays (suc d) k a n u h =
-        let w = placed-left S a u in
+        let w = found (λ d. a ≡ d .left) S u in
         let s = place-below (w .before) (w .after) (w .equation) (w .stands) in
         let r = suc-mul n (length S) in
         ap (λ (j : ℕ). rounds S j a n) (suc-add d k)
-        ∙ subst (λ (c : ℕ). rounds S (suc (d + k)) c n ≡ rounds S (d + k) c n) (w .left-is)
+        ∙ subst (λ (c : ℕ). rounds S (suc (d + k)) c n ≡ rounds S (d + k) c n) (sym (w .has))
         (stable (d + k) (w .before) (w .after) (w .equation) n (w .stands) (omega arith))
         ∙ stays d k a n u h
 

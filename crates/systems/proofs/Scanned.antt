@@ -6,9 +6,9 @@ use mathlib.Core.Logic.{inl, inr}
 use Prim.Native.Nat.{ℕ}
 use lib.Dec.{eqb}
 use Rattle.std.proofs.shelf.Tests.{and-parts, both-ways, eq-eqb, eqb-true, not-true, or-cases, or-left, or-right}
-use Rattle.systems.specs.Trees.{Tree, number, unknown, input, sum, difference, product, bracket, Equation, System, UnknownIn, BareIn, InputIn, EquationOf, UnknownOf, InputOf}
+use Rattle.systems.specs.Trees.{Tree, number, unknown, input, sum, difference, product, bracket, Equation, System, UnknownIn, BareIn, InputIn, UnknownOf, InputOf}
 use Rattle.systems.specs.Solving.{Solvable, Stands}
-use Rattle.systems.proofs.Standing.{placed}
+use Rattle.systems.proofs.Standing.{found, placed}
 
 -- ---- whether a letter is an unknown of a system
 
@@ -104,11 +104,5 @@ module _ (fed : ℕ → Bool) (S : System) (h : scan fed S [] S ≡ true) where
   -- every input passes the test
   pub tested : (x : ℕ) → InputOf x S → fed x ≡ true
   tested x w =
-      let e = holder x S w in
-      let v = placed S (e .0) (e .1) in
-      parts (v .before) (v .after) (e .0) (v .stands) .1 .2 x (e .2)
-    where
-      holder : (y : ℕ) (T : System) → InputOf y T → (e : Equation) × EquationOf e T × InputIn y (e .right)
-      holder y [] k = absurd k
-      holder y (d ∷ T) (inl k) = (d, inl refl, k)
-      holder y (d ∷ T) (inr k) = let r = holder y T k in (r .0, inr (r .1), r .2)
+      let v = found (λ e. InputIn x (e .right)) S w in
+      parts (v .before) (v .after) (v .equation) (v .stands) .1 .2 x (v .has)

@@ -6,7 +6,7 @@ use Prim.Native.Nat.{ℕ, _+_, _<_}
 use native.Mathlib.Omega.{arith}
 use native.Mathlib.Decide.{ℕ-discrete}
 use lib.ListN.{length}
-use Rattle.systems.specs.Trees.{Tree, number, unknown, input, sum, difference, product, bracket, Equation, System, UnknownIn, BareIn, InputIn, EquationOf, UnknownOf, InputOf}
+use Rattle.systems.specs.Trees.{Tree, number, unknown, input, sum, difference, product, bracket, Equation, System, UnknownIn, BareIn, InputIn, SomeEquation, EquationOf, UnknownOf, InputOf}
 use Rattle.systems.specs.Solving.{Stands}
 
 either-way : {A B C D : Type 0} → (A → C) → (B → D) → A ⊎ B → C ⊎ D
@@ -39,66 +39,57 @@ pub input-of? : (x : ℕ) (S : System) → Dec (InputOf x S)
 input-of? x [] = no (λ h. h)
 input-of? x (e ∷ S) = either (input-in? x (e .right)) (input-of? x S)
 
--- an equation of a system stands at a place of it
-pub record Placed (e : Equation) (S : System) : Type 0 where
-  pub before : System
-  pub after : System
-  pub stands : Stands before e after S
+-- ---- equations with a property
 
-pub placed : (S : System) (e : Equation) → EquationOf e S → Placed e S
-placed [] e h = absurd h
-placed (d ∷ S) e (inl p) = record { before = []; after = S; stands = ap (λ x. x ∷ S) (sym p) }
-placed (d ∷ S) e (inr h) =
-    let w = placed S e h in
-    record { before = d ∷ w .before; after = w .after; stands = ap (λ X. d ∷ X) (w .stands) }
+module _ (P : Equation → Type 0) where
+  in-front : (S T : System) → SomeEquation P S → SomeEquation P (S ++ T)
+  in-front [] T h = absurd h
+  in-front (d ∷ S) T (inl p) = inl p
+  in-front (d ∷ S) T (inr h) = inr (in-front S T h)
 
--- an unknown of a system has an equation that stands at a place of it
-pub record PlacedLeft (a : ℕ) (S : System) : Type 0 where
-  pub equation : Equation
-  pub left-is : equation .left ≡ a
-  pub before : System
-  pub after : System
-  pub stands : Stands before equation after S
+  in-between : (S T : System) (e : Equation) → P e → SomeEquation P (S ++ (e ∷ T))
+  in-between [] T e h = inl h
+  in-between (d ∷ S) T e h = inr (in-between S T e h)
 
-pub placed-left : (S : System) (a : ℕ) → UnknownOf a S → PlacedLeft a S
-placed-left [] a h = absurd h
-placed-left (d ∷ S) a (inl p) = record { equation = d; left-is = sym p; before = []; after = S; stands = refl }
-placed-left (d ∷ S) a (inr h) =
-    let w = placed-left S a h in
-    record { equation = w .equation; left-is = w .left-is; before = d ∷ w .before; after = w .after; stands = ap (λ X. d ∷ X) (w .stands) }
+  pub or-last : (S : System) (e : Equation) → SomeEquation P (S ++ (e ∷ [])) → SomeEquation P S ⊎ P e
+  or-last [] e (inl p) = inr p
+  or-last [] e (inr h) = absurd h
+  or-last (d ∷ S) e (inl p) = inl (inl p)
+  or-last (d ∷ S) e (inr h) = elim (or-last S e h) [ inl w ↦ inl (inr w) | inr p ↦ inr p ]
 
-unknown-front : (S T : System) (a : ℕ) → UnknownOf a S → UnknownOf a (S ++ T)
-unknown-front [] T a h = absurd h
-unknown-front (d ∷ S) T a (inl p) = inl p
-unknown-front (d ∷ S) T a (inr h) = inr (unknown-front S T a h)
+  -- such an equation stands at a place of the system
+  pub record Found (S : System) : Type 0 where
+    pub equation : Equation
+    pub has : P equation
+    pub before : System
+    pub after : System
+    pub stands : Stands before equation after S
 
-equation-mid : (S T : System) (e : Equation) → EquationOf e (S ++ (e ∷ T))
-equation-mid [] T e = inl refl
-equation-mid (d ∷ S) T e = inr (equation-mid S T e)
+  pub found : (S : System) → SomeEquation P S → Found S
+  found [] h = absurd h
+  found (d ∷ S) (inl p) = record { equation = d; has = p; before = []; after = S; stands = refl }
+  found (d ∷ S) (inr h) =
+      let w = found S h in
+      record { equation = w .equation; has = w .has; before = d ∷ w .before; after = w .after; stands = ap (λ X. d ∷ X) (w .stands) }
 
-input-mid : (S T : System) (e : Equation) (x : ℕ) → InputIn x (e .right) → InputOf x (S ++ (e ∷ T))
-input-mid [] T e x h = inl h
-input-mid (d ∷ S) T e x h = inr (input-mid S T e x h)
-
-pub unknown-last : (S : System) (e : Equation) (a : ℕ) → UnknownOf a (S ++ (e ∷ [])) → UnknownOf a S ⊎ (a ≡ e .left)
-unknown-last [] e a (inl p) = inr p
-unknown-last [] e a (inr h) = absurd h
-unknown-last (d ∷ S) e a (inl p) = inl (inl p)
-unknown-last (d ∷ S) e a (inr h) = elim (unknown-last S e a h) [ inl w ↦ inl (inr w) | inr p ↦ inr p ]
+-- ---- the place of an equation
 
 length-front : (S T : System) (e : Equation) → length S < length (S ++ (e ∷ T))
 length-front [] T e = omega arith
 length-front (d ∷ S) T e = let h = length-front S T e in omega arith
 
 module _ {S : System} (before after : System) (e : Equation) (p : Stands before e after S) where
+  is-one : (P : Equation → Type 0) → P e → SomeEquation P S
+  is-one P h = subst (λ X. SomeEquation P X) (sym p) (in-between P before after e h)
+
   pub is-equation : EquationOf e S
-  is-equation = subst (λ X. EquationOf e X) (sym p) (equation-mid before after e)
+  is-equation = is-one (λ d. e ≡ d) refl
 
   pub is-input : (x : ℕ) → InputIn x (e .right) → InputOf x S
-  is-input x h = subst (λ X. InputOf x X) (sym p) (input-mid before after e x h)
+  is-input x h = is-one (λ d. InputIn x (d .right)) h
 
   pub still-unknown : (a : ℕ) → UnknownOf a before → UnknownOf a S
-  still-unknown a h = subst (λ X. UnknownOf a X) (sym p) (unknown-front before (e ∷ after) a h)
+  still-unknown a h = subst (λ X. UnknownOf a X) (sym p) (in-front (λ d. a ≡ d .left) before (e ∷ after) h)
 
   pub place-below : length before < length S
   place-below = subst (λ X. length before < length X) (sym p) (length-front before after e)
@@ -106,3 +97,14 @@ module _ {S : System} (before after : System) (e : Equation) (p : Stands before 
   -- what stands before e stands in the system, ahead of e
   pub moved-on : (c d : System) (f : Equation) → Stands c f d before → Stands c f (d ++ (e ∷ after)) S
   moved-on c d f r = p ∙ ap (λ X. X ++ (e ∷ after)) r ∙ append-assoc c (f ∷ d) (e ∷ after)
+
+-- an equation of a system stands at a place of it
+pub record Placed (e : Equation) (S : System) : Type 0 where
+  pub before : System
+  pub after : System
+  pub stands : Stands before e after S
+
+pub placed : (S : System) (e : Equation) → EquationOf e S → Placed e S
+placed S e h =
+    let w = found (λ d. e ≡ d) S h in
+    record { before = w .before; after = w .after; stands = subst (λ d. Stands (w .before) d (w .after) S) (sym (w .has)) (w .stands) }

@@ -11,7 +11,7 @@ use Rattle.systems.specs.Families.{Family}
 use Rattle.systems.specs.Trees.{Equation, System, UnknownOf}
 use Rattle.systems.specs.Values.{SatisfiesBelow}
 use Rattle.systems.specs.Solving.{Solvable, Stands, SameInputs, SameUnknowns}
-use Rattle.systems.proofs.Standing.{is-equation, is-input, still-unknown, unknown-last}
+use Rattle.systems.proofs.Standing.{is-equation, is-input, still-unknown, or-last}
 use Rattle.systems.proofs.Causal.{near}
 
 module _ (m : RingModel) (q : ℕ) (S : System) (ok : Solvable S) (N : ℕ) (I J F G : Family)
@@ -47,7 +47,7 @@ module _ (m : RingModel) (q : ℕ) (S : System) (ok : Solvable S) (N : ℕ) (I J
       subst (λ (b : ℕ). F b n ≡ G b n) (sym w) (at-one n lt below fed before rest e p here)
   at-all n lt below fed (e ∷ rest) before p here a (inr h) =
       at-all n lt below fed rest (before ++ (e ∷ [])) (p ∙ sym (append-assoc before (e ∷ []) rest))
-      (λ b k. elim (unknown-last before e b k) [
+      (λ b k. elim (or-last (λ d. b ≡ d .left) before e k) [
         | inl w ↦ here b w
         | inr w ↦ subst (λ (c : ℕ). F c n ≡ G c n) (sym w) (at-one n lt below fed before rest e p here)
       ])

@@ -53,17 +53,19 @@ InputIn x (difference s t) = InputIn x s ⊎ InputIn x t
 InputIn x (product s t) = InputIn x s ⊎ InputIn x t
 InputIn x (bracket s) = InputIn x s
 
+-- one of the equations has the property
+abbrev pub SomeEquation : (Equation → Type 0) → System → Type 0
+SomeEquation P [] = ⊥
+SomeEquation P (e ∷ S) = P e ⊎ SomeEquation P S
+
 -- e is one of the equations
 abbrev pub EquationOf : Equation → System → Type 0
-EquationOf e [] = ⊥
-EquationOf e (d ∷ S) = (e ≡ d) ⊎ EquationOf e S
+EquationOf e S = SomeEquation (λ d. e ≡ d) S
 
 -- a is the left side of one of the equations
 abbrev pub UnknownOf : ℕ → System → Type 0
-UnknownOf a [] = ⊥
-UnknownOf a (e ∷ S) = (a ≡ e .left) ⊎ UnknownOf a S
+UnknownOf a S = SomeEquation (λ e. a ≡ e .left) S
 
 -- x stands on the right side of one of the equations
 abbrev pub InputOf : ℕ → System → Type 0
-InputOf x [] = ⊥
-InputOf x (e ∷ S) = InputIn x (e .right) ⊎ InputOf x S
+InputOf x S = SomeEquation (λ e. InputIn x (e .right)) S
