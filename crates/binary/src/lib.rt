@@ -1,4 +1,6 @@
 // Binary polynomials modulo a polynomial f of degree 1 to 31. Bit i of a code is the coefficient of the i-th power.
+#![tactic(auto)]
+
 ghost use Rattle.std.specs.Prelude.{◌≡◌, ℕ, ◌*◌, ◌^◌, ◌<◌, ◌≤◌, MatchOption};
 ghost use Rattle.binary.specs.Agreement.{Agrees};
 ghost use Rattle.binary.specs.Codes.{product, reduce};

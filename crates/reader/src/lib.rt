@@ -1,4 +1,6 @@
 // The reader of equation texts: which texts are accepted, and why any other is refused.
+#![tactic(auto)]
+
 mod examining;
 mod fault;
 mod progress;

@@ -1,4 +1,6 @@
 // Tests of the lexer, of the reader at the edges of what is accepted and what is refused, and of the records.
+#![tactic(auto)]
+
 #[cfg(test)]
 mod answers;
 #[cfg(test)]

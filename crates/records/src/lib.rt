@@ -1,4 +1,6 @@
 // Equation texts as node records.
+#![tactic(auto)]
+
 mod reading;
 mod record;
 mod writer;

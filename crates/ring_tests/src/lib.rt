@@ -1,4 +1,6 @@
 // Tests of the rings and of the first table, at the edges of what is taken and what is refused.
+#![tactic(auto)]
+
 #[cfg(test)]
 mod made;
 #[cfg(test)]

@@ -18,7 +18,7 @@ pub struct Dual<R> {
 impl<R: Ring> Dual<R> {
     // The size of the ring below where the dual ring is in order, else 0.
     fn side(&self) -> u64
-        ensures value { result ≡ side (meaning self.now.below) }
+        ensures value { result ≡ side (R.meaning self.now.below) }
         ensures bound { result ≤ 2 ^ 31 }
     {
         let s = self.below.size();
@@ -27,8 +27,8 @@ impl<R: Ring> Dual<R> {
 
     // The codes a and b, where x is the code of a + bε.
     fn parts(&self, x: u64) -> (u64, u64)
-        ensures first { result.0 ≡ code (dual (meaning self.now.below)) x % size_of (meaning self.now.below) }
-        ensures second { result.1 ≡ code (dual (meaning self.now.below)) x / size_of (meaning self.now.below) }
+        ensures first { result.0 ≡ code (dual (R.meaning self.now.below)) x % size_of (R.meaning self.now.below) }
+        ensures second { result.1 ≡ code (dual (R.meaning self.now.below)) x / size_of (R.meaning self.now.below) }
     {
         let s = self.side();
         if s == 0 {
@@ -40,7 +40,7 @@ impl<R: Ring> Dual<R> {
 
     // The code of a + bε.
     fn joined(&self, a: u64, b: u64) -> u64
-        ensures { result ≡ if_in_order (dual_order (meaning self.now.below)) (join (size_of (meaning self.now.below)) (code (meaning self.now.below) a) (code (meaning self.now.below) b)) }
+        ensures { result ≡ if_in_order (dual_order (R.meaning self.now.below)) (join (size_of (R.meaning self.now.below)) (code (R.meaning self.now.below) a) (code (R.meaning self.now.below) b)) }
     {
         let s = self.side();
         clipped(s, a) + s * clipped(s, b)

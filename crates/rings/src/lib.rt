@@ -1,4 +1,6 @@
 // Finite commutative rings. A ring tells its elements by codes, the whole numbers from 0 up to its size less 1.
+#![tactic(auto)]
+
 ghost use Rattle.rings.specs.Model.{Lawful, RingModel, clip, one_of, opposite, product, size_of, sum};
 ghost use Rattle.std.specs.Prelude.{◌≡◌};
 

@@ -1,4 +1,6 @@
 // Weights, products of formal series and the table of the binary trees, over any ring.
+#![tactic(auto)]
+
 ghost use Rattle.std.specs.Prelude.{◌≡◌, ◌≤◌};
 ghost use Rattle.series.specs.Weights.{rows_before};
 

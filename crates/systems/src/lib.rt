@@ -1,4 +1,6 @@
 // Systems of equations between formal series: which product goes with q, what solves a system, and what a map between rings carries.
+#![tactic(auto)]
+
 mod comparing;
 mod examples;
 mod products;

@@ -1,5 +1,7 @@
 // Prints the table of the binary trees, the series B with B = 1 + [B × B], over several rings, q and lengths; and for dual numbers
 // the first parts of the table, which are the table over the ring below.
+#![tactic(auto)]
+
 use rings::{BinaryPolynomials, Dual, Residues, Ring};
 use std::io;
 use systems::{ProductKind, both_in_order, first_part, tabulate_trees};

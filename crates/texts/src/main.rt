@@ -1,4 +1,6 @@
 // Prints what examining texts answers, and the node records of a text.
+#![tactic(auto)]
+
 use reader::examine;
 use records::{MOST_NODES, Node, Record, read};
 use std::io;

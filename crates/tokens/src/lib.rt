@@ -1,4 +1,6 @@
 // The tokens of equation texts.
+#![tactic(auto)]
+
 mod lexer;
 mod token;
 

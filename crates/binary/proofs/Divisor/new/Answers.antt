@@ -11,18 +11,25 @@ lower i j h = elim (dec_le (suc i) j) [ yes l ↦ l | no n ↦ absurd (let back 
 pub returns-then-f-lt2 : goal.returns-then-f-lt2
 returns-then-f-lt2 c d lo hi g = omega (arith, c.then-f-lt2.either, pow_mono lo, pow_mono hi, g.0, g.1)
 
+-- where f's lowest 64 bits begin, counted from the top, is its degree
 found : (f : ℕ) → 2 ≤ f → f < 2 ^ 32 → (d : ℕ) → count_leading_zeros 64 f + suc d ≡ 64 → 2 ^ d ≤ f → f < 2 ^ suc d
-    → (1 ≤ d) × ((d ≤ 31) × (HasDegree f d × Unit {0}))
+    → (1 ≤ d) × (d ≤ 31) × HasDegree f d
 found f two few d e lo hi =
-    (omega (arith, lower 1 (suc d) (omega arith)), (omega (arith, lower d 32 (omega arith)), ((lo, omega (arith, pow-suc 2 d)), tt)))
+    (omega (arith, lower 1 (suc d) (omega arith)), omega (arith, lower d 32 (omega arith)), (lo, omega (arith, pow-suc 2 d)))
 
-pub invariant-of-result : goal.invariant-of-result
-invariant-of-result c =
-    subst (λ (d : ℕ). (1 ≤ d) × ((d ≤ 31) × (HasDegree c.args.f d × Unit {0}))) is
-    (found c.args.f (omega arith) (omega arith) at.0 at.1 at.2 at.3)
+pub invariant_of-result : goal.invariant_of-result
+invariant_of-result c =
+    record {
+      least = all.0;
+      most = all.1;
+      leads = all.2;
+    }
   where
     at : (d : ℕ) × (count_leading_zeros 64 c.args.f + suc d ≡ 64) × (2 ^ d ≤ c.args.f) × (c.args.f < 2 ^ suc d)
     at = leading_top 64 c.args.f (omega arith) (omega arith)
 
     is : at.0 ≡ 63 - count_leading_zeros 64 c.args.f
     is = omega (arith, at.1)
+
+    all : (1 ≤ 63 - count_leading_zeros 64 c.args.f) × (63 - count_leading_zeros 64 c.args.f ≤ 31) × HasDegree c.args.f (63 - count_leading_zeros 64 c.args.f)
+    all = subst (λ (d : ℕ). (1 ≤ d) × (d ≤ 31) × HasDegree c.args.f d) is (found c.args.f (omega arith) (omega arith) at.0 at.1 at.2 at.3)
