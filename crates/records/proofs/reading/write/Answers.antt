@@ -31,4 +31,4 @@ returns c = λ S h.
     subst (λ (l : List Record). Written S l c.loop-lexed.writer) (lent c.new-writer.result c.args.records c.new-writer.ensures)
     (stops c.args.text.now c.loop-lexed.rest.now c.new-writer.result.sheet.records
     (omega (arith, ap length (lent c.new-writer.result c.args.records c.new-writer.ensures)))
-    c.loop-lexed.writer S (accepted_ends c.args.text.now S h) (c.loop-lexed.invariant S h) c.in-default.ensures.answer)
+    c.loop-lexed.writer S (accepted_ends c.args.text.now S h) (c.loop-lexed.invariant S h) c.in_default.ensures.answer)

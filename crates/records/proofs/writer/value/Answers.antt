@@ -4,8 +4,8 @@ use Rattle.records.proofs.writer.value.Goals as goal
 
 pub loop-digit-preserved : goal.loop-digit-preserved
 loop-digit-preserved c = (
-  sym (one_digit c.args.digits.now c.loop-digit.digit-index c.loop-digit.value c.saturating-add-value.result (omega arith) (omega arith)) ∙ c.loop-digit.invariant.0,
-  c.saturating-add-value.type-inv,
+  sym (one_digit c.args.digits.now c.loop-digit.digit-index c.loop-digit.value c.saturating_add-value.result (omega arith) (omega arith)) ∙ c.loop-digit.invariant.0,
+  c.saturating_add-value.type_inv,
 )
 
 pub returns : goal.returns

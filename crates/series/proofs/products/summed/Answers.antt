@@ -19,7 +19,7 @@ loop-k-preserved g c =
     let n = c.args.n in
     let k = c.loop-k.k in
     let weighed : c.mul-weighed.result ≡ product m (standing cells n k) (a k) =
-    c.mul-weighed.ensures ∙ ap (λ (first : ℕ). product m (get_or cells (first + k) 0) (a k)) c.rows-before-first.ensures in
+    c.mul-weighed.ensures ∙ ap (λ (first : ℕ). product m (get_or cells (first + k) 0) (a k)) c.rows_before-first.ensures in
     let paired : c.mul.result ≡ pair m (standing cells) a b n k = c.mul.ensures ∙ ap (λ (x : ℕ). product m x (b (n - k))) weighed in
     c.add-sum.ensures ∙ ap₂ (sum m) c.loop-k.invariant paired ∙ sym (sum_more m k (pair m (standing cells) a b n))
 

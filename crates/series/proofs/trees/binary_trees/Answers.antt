@@ -13,12 +13,12 @@ use Rattle.series.proofs.trees.binary_trees.Goals as goal
 pub loop-n-init : goal.loop-n-init
 loop-n-init g c =
     let m = g.R.Ring.meaning c.args.ring.now in
-    let ok = admits m c.args.q c.args.length c.in-ok-weights.ensures.answer.0 in
+    let ok = admits m c.args.q c.args.length c.in_ok-weights.ensures.answer.0 in
     let new = c.in-Ok.ensures in
-    let items : vec_items c.push-reserved.new.self ≡ one_of m ∷ [] =
-    c.push-reserved.ensures.items ∙ ap₂ (λ (xs : List ℕ) (x : ℕ). xs ++ x ∷ []) new.items c.one.ensures in (
+    let items : vec_items c.push_reserved.new.self ≡ one_of m ∷ [] =
+    c.push_reserved.ensures.items ∙ ap₂ (λ (xs : List ℕ) (x : ℕ). xs ++ x ∷ []) new.items c.one.ensures in (
       subst (IsTreeRow m c.args.q 1) (sym items) (tree_first m c.args.q (g.met.R.Ring.lawful c.args.ring.now) ok.on),
-      (let e = c.push-reserved.ensures.capacity in let r = new.capacity in omega arith),
+      (let e = c.push_reserved.ensures.capacity in let r = new.capacity in omega arith),
     )
 
 -- the row and the weights reach as far as term n looks
@@ -34,7 +34,7 @@ enough m q N n cells row ok t tree h =
 pub summed-term-requires : goal.summed-term-requires
 summed-term-requires g c =
     let m = g.R.Ring.meaning c.args.ring.now in
-    let made = c.in-ok-weights.ensures.answer in
+    let made = c.in_ok-weights.ensures.answer in
     let ok = admits m c.args.q c.args.length made.0 in
     rw (c.deref.ensures.value, c.deref-in-loop-n.ensures.value, c.deref-in-loop-n-2.ensures.value)
     (enough m c.args.q c.args.length c.loop-n.n _ _ ok made.1 c.loop-n.invariant.0 (omega arith))
@@ -45,8 +45,8 @@ loop-n-preserved g c =
     let q = c.args.q in
     let n = c.loop-n.n in
     let row = vec_items c.loop-n.row in
-    let cells = vec_items c.in-ok-weights.weights in
-    let made = c.in-ok-weights.ensures.answer in
+    let cells = vec_items c.in_ok-weights.weights in
+    let made = c.in_ok-weights.ensures.answer in
     let ok = admits m q c.args.length made.0 in
     let tree = c.loop-n.invariant.0 in
     let inside : n < c.args.length = omega arith in
@@ -54,14 +54,14 @@ loop-n-preserved g c =
     rw (c.deref.ensures.value, c.deref-in-loop-n.ensures.value, c.deref-in-loop-n-2.ensures.value) at c.summed-term.ensures in
     let is : c.summed-term.result ≡ times m q (listed row) (listed row) n =
     term ∙ weighted_times m q c.args.length cells row row n inside made.1 (enough m q c.args.length n cells row ok made.1 tree inside) (listed row) (listed row) (λ i h. refl) (λ i h. refl) in (
-      subst (IsTreeRow m q (n + 1 + 1)) (sym c.push-reserved-in-loop-n.ensures.items) (tree_more m q (g.met.R.Ring.lawful c.args.ring.now) ok.on n row c.summed-term.result is tree),
-      (let e = c.push-reserved-in-loop-n.ensures.capacity in let r = c.loop-n.invariant.1 in omega arith),
+      subst (IsTreeRow m q (n + 1 + 1)) (sym c.push_reserved-in-loop-n.ensures.items) (tree_more m q (g.met.R.Ring.lawful c.args.ring.now) ok.on n row c.summed-term.result is tree),
+      (let e = c.push_reserved-in-loop-n.ensures.capacity in let r = c.loop-n.invariant.1 in omega arith),
     )
 
 pub returns : goal.returns
 returns g c =
     let m = g.R.Ring.meaning c.args.ring.now in
-    let made = c.in-ok-weights.ensures.answer in
+    let made = c.in_ok-weights.ensures.answer in
     let ok = admits m c.args.q c.args.length made.0 in
     let all : c.loop-n.n + 1 ≡ c.args.length = omega arith in
     (made.0, subst (λ (n : ℕ). IsTreeRow m c.args.q n (vec_items c.loop-n.row)) all c.loop-n.invariant.0)

@@ -13,8 +13,8 @@ use Rattle.series.proofs.weighing.push_row.Goals.{then-k-n, else-k-n}
 above_fits : (n : ℕ) → n ≤ rows_before n
 above_fits n = elim (dec_le n 0) [ yes h ↦ omega arith | no h ↦ let p = row_above n (omega (arith, h)) in omega arith ]
 
-pub overflow-sub-above : goal.overflow-sub-above
-overflow-sub-above g c = let p = above_fits c.args.n in let e = c.requires.rows.count in let l = c.args.cells.now.ok.0 in let s = c.len.ensures in omega arith
+pub overflow_sub-above : goal.overflow_sub-above
+overflow_sub-above g c = let p = above_fits c.args.n in let e = c.requires.rows.count in let l = c.args.cells.now.ok.0 in let s = c.len.ensures in omega arith
 
 pub loop-k-init : goal.loop-k-init
 unfolding power
@@ -49,10 +49,10 @@ loop-k-preserved g c =
           w.weight-is ∙ w.add-weight.ensures ∙ ap₂ (sum m) left (w.mul.ensures ∙ ap₂ (product m) c.loop-k.invariant.2 right) ∙ sym (rule.inner n k inside.0 inside.1)
     ] in
     let filled = filled_push m q n k cells c.if-k-n.weight len (omega arith) is c.loop-k.invariant.1 in (
-      c.push-reserved.ensures.len ∙ (let e = c.loop-k.invariant.0 in omega arith),
-      subst (Filled m q) (sym c.push-reserved.ensures.items) filled,
+      c.push_reserved.ensures.len ∙ (let e = c.loop-k.invariant.0 in omega arith),
+      subst (Filled m q) (sym c.push_reserved.ensures.items) filled,
       c.mul-power.ensures ∙ ap (product m q) c.loop-k.invariant.2 ∙ ap (power m q) (sym (add-one k)),
-      c.push-reserved.ensures.capacity ∙ c.loop-k.invariant.3,
+      c.push_reserved.ensures.capacity ∙ c.loop-k.invariant.3,
     )
 
 pub returns : goal.returns

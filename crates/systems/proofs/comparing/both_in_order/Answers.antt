@@ -13,6 +13,6 @@ returns g c =
     let a = g.R.Ring.meaning c.args.first.now in
     let b = g.S.Ring.meaning c.args.second.now in
     record {
-      answer = second_decides a.order b.order _ c.order-2.ensures c.in-ok-order.ensures;
+      answer = second_decides a.order b.order _ c.order-2.ensures c.in_ok-order.ensures;
       tables = transfers a b (g.met.R.Ring.lawful c.args.first.now) (g.met.S.Ring.lawful c.args.second.now);
     }

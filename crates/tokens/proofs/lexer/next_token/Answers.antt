@@ -7,35 +7,35 @@ use Rattle.tokens.proofs.Fronts.{rest, apart, past_none, all_separators, run_le}
 use Rattle.tokens.proofs.Listing.{number_front, one_list}
 use Rattle.tokens.proofs.lexer.next_token.Goals as goal
 
-pub split-at-requires : goal.split-at-requires
-split-at-requires c = omega (arith, run_le c.skip-separators-text.result.now, c.count-digits.ensures)
+pub split_at-requires : goal.split_at-requires
+split_at-requires c = omega (arith, run_le c.skip_separators-text.result.now, c.count_digits.ensures)
 
 pub returns-in-empty : goal.returns-in-empty
 returns-in-empty c =
-    let short : length c.skip-separators-text.result.now < 1 = search rules in
-    record { answer = all_separators c.args.text.now (omega (arith, ap length c.skip-separators-text.ensures)); tokens = one_list }
+    let short : length c.skip_separators-text.result.now < 1 = search rules in
+    record { answer = all_separators c.args.text.now (omega (arith, ap length c.skip_separators-text.ensures)); tokens = one_list }
 
-pub returns-then-is-digit : goal.returns-then-is-digit
-returns-then-is-digit c =
-    let s = c.skip-separators-text.result.now in
+pub returns-then-is_digit : goal.returns-then-is_digit
+returns-then-is_digit c =
+    let s = c.skip_separators-text.result.now in
     let some : 0 < length s = search rules in
-    let n = c.count-digits.ensures in
-    let front = c.split-at.ensures.front ∙ ap (λ m. take m s) n in
-    let back = c.split-at.ensures.back ∙ ap (λ m. drop m s) n in
+    let n = c.count_digits.ensures in
+    let front = c.split_at.ensures.front ∙ ap (λ m. take m s) n in
+    let back = c.split_at.ensures.back ∙ ap (λ m. drop m s) n in
     record {
-      answer = fronted c.args.text.now s (take (run_length s) s) (drop (run_length s) s) (number (take (run_length s) s)) _ c.skip-separators-text.ensures
-          (sym (take-append-drop (run_length s) s)) (number_front s some (sym c.if-is-digit.ensures)) (ap number front) refl back;
+      answer = fronted c.args.text.now s (take (run_length s) s) (drop (run_length s) s) (number (take (run_length s) s)) _ c.skip_separators-text.ensures
+          (sym (take-append-drop (run_length s) s)) (number_front s some (sym c.if-is_digit.ensures)) (ap number front) refl back;
       tokens = one_list;
     }
 
-pub returns-else-is-digit : goal.returns-else-is-digit
-returns-else-is-digit c =
-    let s = c.skip-separators-text.result.now in
+pub returns-else-is_digit : goal.returns-else-is_digit
+returns-else-is_digit c =
+    let s = c.skip_separators-text.result.now in
     let some : 0 < length s = search rules in
-    let more : 0 < length (past_separators c.args.text.now) = omega (arith, ap length c.skip-separators-text.ensures) in
-    let bare : separator (get_or s 0 0) ≡ false = subst (λ (x : List ℕ). separator (get_or x 0 0) ≡ false) (sym c.skip-separators-text.ensures) (past_none c.args.text.now more) in
+    let more : 0 < length (past_separators c.args.text.now) = omega (arith, ap length c.skip_separators-text.ensures) in
+    let bare : separator (get_or s 0 0) ≡ false = subst (λ (x : List ℕ). separator (get_or x 0 0) ≡ false) (sym c.skip_separators-text.ensures) (past_none c.args.text.now more) in
     record {
-      answer = fronted c.args.text.now s (get_or s 0 0 ∷ []) (rest s) (single (get_or s 0 0)) _ c.skip-separators-text.ensures
-          (apart s some) (alone (get_or s 0 0) (rest s) bare (sym c.if-is-digit.ensures)) c.sign-or-letter.ensures refl refl;
+      answer = fronted c.args.text.now s (get_or s 0 0 ∷ []) (rest s) (single (get_or s 0 0)) _ c.skip_separators-text.ensures
+          (apart s some) (alone (get_or s 0 0) (rest s) bare (sym c.if-is_digit.ensures)) c.sign_or_letter.ensures refl refl;
       tokens = one_list;
     }
