@@ -48,9 +48,9 @@ impl<R: Ring> Dual<R> {
 }
 
 impl<R: Ring> Ring for Dual<R> {
-    ghost meaning = { λ ring. dual (R.Ring.meaning ring.below) };
+    ghost meaning = { λ ring. dual (R.meaning ring.below) };
 
-    ghost lawful = { λ ring. dual_lawful (R.Ring.meaning ring.below) (R.Ring.lawful ring.below) };
+    ghost lawful = { λ ring. dual_lawful (R.meaning ring.below) (R.lawful ring.below) };
 
     fn order(&self) -> Result<(), RingFault> {
         match self.below.order() {

@@ -43,7 +43,7 @@ impl TableFault {
 
 // Whether there is a table of this length over the ring with q, or else the fault that decides.
 pub fn admit<R: Ring>(ring: &R, q: u64, length: usize) -> Result<(), TableFault>
-    ensures { result ≡ admitted (meaning ring.now) q length }
+    ensures { result ≡ admitted (R.meaning ring.now) q length }
 {
     if let Err(fault) = ring.order() {
         return Err(TableFault::Ring(fault));

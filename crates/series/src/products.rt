@@ -15,8 +15,8 @@ pub fn product_term<R: Ring>(
     b: &[u64],
     n: usize,
 ) -> Option<u64>
-    ensures term { GivesTerm (meaning ring.now) weights.now a.now b.now n result }
-    ensures product { GivesProduct (meaning ring.now) weights.now a.now b.now n result }
+    ensures term { GivesTerm (R.meaning ring.now) weights.now a.now b.now n result }
+    ensures product { GivesProduct (R.meaning ring.now) weights.now a.now b.now n result }
 {
     if n >= MOST_TERMS || n >= a.len() || n >= b.len() {
         return None;
@@ -30,7 +30,7 @@ pub fn product_term<R: Ring>(
 // The sum of weight × a × b over the pairs of indices that come to n.
 pub(crate) fn summed<R: Ring>(ring: &R, weights: &[u64], a: &[u64], b: &[u64], n: usize) -> u64
     requires { Enough weights.now a.now b.now n }
-    ensures { result ≡ weighted (meaning ring.now) (standing weights.now) (listed a.now) (listed b.now) n }
+    ensures { result ≡ weighted (R.meaning ring.now) (standing weights.now) (listed a.now) (listed b.now) n }
 {
     let first = rows_before(n);
     let mut sum = 0;

@@ -14,7 +14,7 @@ pub fn binary_trees<R: Ring>(
     q: u64,
     length: usize,
 ) -> Result<Vec<u64>, TableFault>
-    ensures { Attempt (meaning ring.now) q length (λ row. IsTreeRow (meaning ring.now) q length row.items) result }
+    ensures { Attempt (R.meaning ring.now) q length (λ row. IsTreeRow (R.meaning ring.now) q length row.items) result }
 {
     let weights = weights(heap, ring, q, length)?;
     let Ok(mut row) = Vec::with_capacity(heap, length) else {

@@ -14,8 +14,8 @@ pub fn weights<R: Ring>(
     q: u64,
     length: usize,
 ) -> Result<Vec<u64>, TableFault>
-    ensures answer { Attempt (meaning ring.now) q length (λ cells. Tabulates (meaning ring.now) q length cells.items) result }
-    ensures table { OneTable (meaning ring.now) q }
+    ensures answer { Attempt (R.meaning ring.now) q length (λ cells. Tabulates (R.meaning ring.now) q length cells.items) result }
+    ensures table { OneTable (R.meaning ring.now) q }
 {
     admit(ring, q, length)?;
     let Ok(mut cells) = Vec::with_capacity(heap, rows_before(length)) else {
@@ -30,9 +30,9 @@ pub fn weights<R: Ring>(
 // Row n, behind the rows before it.
 fn push_row<R: Ring>(ring: &R, q: u64, n: usize, cells: &mut Vec<u64>)
     requires small { n < 64 }
-    requires rows { Tabulates (meaning ring.now) q n cells.old.items }
+    requires rows { Tabulates (R.meaning ring.now) q n cells.old.items }
     requires room { rows_before (n + 1) ≤ vec_capacity cells.old }
-    ensures rows { Tabulates (meaning ring.now) q (n + 1) cells.new.items }
+    ensures rows { Tabulates (R.meaning ring.now) q (n + 1) cells.new.items }
     ensures capacity { vec_capacity cells.new ≡ vec_capacity cells.old }
 {
     let above = cells.len() - n;

@@ -9,8 +9,8 @@ use rings::{Ring, RingFault};
 // A map that carries 0, the one, sums, products and q from the first to the second carries weights, values of trees and solutions;
 // and it carries the table of a system to that of a rearranged one, as far as it carries the inputs that both have.
 pub fn both_in_order<R: Ring, S: Ring>(first: &R, second: &S) -> Result<(), RingFault>
-    ensures answer { result ≡ both (R.Ring.meaning first.now).order (S.Ring.meaning second.now).order }
-    ensures tables { Transfers (R.Ring.meaning first.now) (S.Ring.meaning second.now) }
+    ensures answer { result ≡ both (R.meaning first.now).order (S.meaning second.now).order }
+    ensures tables { Transfers (R.meaning first.now) (S.meaning second.now) }
 {
     first.order()?;
     second.order()
@@ -20,8 +20,8 @@ pub fn both_in_order<R: Ring, S: Ring>(first: &R, second: &S) -> Result<(), Ring
 // Where the dual numbers are in order this is a map that carries: taken of every coefficient of a table over the dual numbers, it
 // gives the table over the ring below, also of a rearranged system.
 pub fn first_part<R: Ring>(below: &R, x: u64) -> u64
-    ensures answer { result ≡ first_part (meaning below.now) x }
-    ensures tables { CarriesFirstParts (meaning below.now) }
+    ensures answer { result ≡ first_part (R.meaning below.now) x }
+    ensures tables { CarriesFirstParts (R.meaning below.now) }
 {
     let size = below.size();
     if size == 0 { 0 } else { x % size }

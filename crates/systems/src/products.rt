@@ -22,9 +22,9 @@ impl ProductKind {
     // Over every ring the weights have their laws for every q, and the products at 0 and 1 are Cauchy's and Hurwitz's; over
     // every ring in order, for every q, the series form a commutative ring and the bracket is additive.
     pub fn of<R: Ring>(ring: &R, q: u64) -> Result<ProductKind, TableFault>
-        ensures answer { result ≡ kind_of (meaning ring.now) q }
-        ensures weights { WeightLaws (meaning ring.now) }
-        ensures series { SeriesRings (meaning ring.now) }
+        ensures answer { result ≡ kind_of (R.meaning ring.now) q }
+        ensures weights { WeightLaws (R.meaning ring.now) }
+        ensures series { SeriesRings (R.meaning ring.now) }
     {
         admit(ring, q, 1)?;
         Ok(kind(ring, q))
@@ -33,7 +33,7 @@ impl ProductKind {
 
 // Which product goes with q, where nothing refuses it.
 fn kind<R: Ring>(ring: &R, q: u64) -> ProductKind
-    ensures { result ≡ kind (meaning ring.now) q }
+    ensures { result ≡ kind (R.meaning ring.now) q }
 {
     if q == 0 {
         ProductKind::Cauchy

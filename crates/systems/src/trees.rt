@@ -18,9 +18,9 @@ pub fn tabulate_trees<R: Ring>(
     q: u64,
     length: usize,
 ) -> Result<Vec<u64>, TableFault>
-    ensures row { Attempt (meaning ring.now) q length (λ row. IsRow (meaning ring.now) q length binary_trees unfed B row.items) result }
-    ensures solution { OneSolution (meaning ring.now) }
-    ensures rearranged { SameSolutions (meaning ring.now) }
+    ensures row { Attempt (R.meaning ring.now) q length (λ row. IsRow (R.meaning ring.now) q length binary_trees unfed B row.items) result }
+    ensures solution { OneSolution (R.meaning ring.now) }
+    ensures rearranged { SameSolutions (R.meaning ring.now) }
 {
     binary_trees(heap, ring, q, length)
 }

@@ -6,7 +6,7 @@ use Rattle.records.proofs.reading.read.Goals as goal
 
 pub returns-in_err-counts : goal.returns-in_err-counts
 returns-in_err-counts c =
-    let p = err_from_is_err_and c.from-residual.result c.from-residual.ensures.1 in
+    let p = err_from_is_err_and c.from_residual.result c.from_residual.ensures.1 in
     record { answer = rw (p.1, p.2) (c.in_err-counts.ensures.answer, refl); laws = record_laws }
 
 pub slice_bounds-complete-end : goal.slice_bounds-complete-end

@@ -8,7 +8,7 @@ use Rattle.series.proofs.weighing.weights.Goals as goal
 
 pub returns-in_err-admit : goal.returns-in_err-admit
 returns-in_err-admit g c =
-    let p = err_from_is_err_and c.from-residual.result c.from-residual.ensures.1 in
+    let p = err_from_is_err_and c.from_residual.result c.from_residual.ensures.1 in
     record { answer = rw (p.1, p.2) (decides _ _ (sym c.in_err-admit.ensures)); table = one_table _ _ }
 
 pub returns-in_default : goal.returns-in_default

@@ -11,7 +11,7 @@ pub returns-in_err-admit : goal.returns-in_err-admit
 returns-in_err-admit g c =
     let m = g.R.Ring.meaning c.args.ring.now in
     let lawful = g.met.R.Ring.lawful c.args.ring.now in
-    let p = err_from_is_err_and c.from-residual.result c.from-residual.ensures.1 in
+    let p = err_from_is_err_and c.from_residual.result c.from_residual.ensures.1 in
     record { answer = rw (p.1, p.2) (ap (through (λ _. kind m c.args.q)) c.in_err-admit.ensures); weights = weight_laws (total m lawful); series = series_rings m lawful }
 
 pub returns : goal.returns
