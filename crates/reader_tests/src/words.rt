@@ -53,6 +53,6 @@ fn one_after_another(rt: HostRuntime) -> Result<(), Fail> {
     let Token::Number(digits) = lexed.token else {
         return Err(Fail::new("no number"));
     };
-    assert_eq!(rt; digits, b"0072");
+    assert_eq!(rt; digits, b"0072".as_slice());
     Ok(())
 }

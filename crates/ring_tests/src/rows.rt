@@ -7,16 +7,16 @@ use std::test::Fail;
 fn gaussian_weights(rt: HostRuntime) -> Result<(), Fail> {
     let ring = Residues::new(1000)?;
     let ones = weights(rt.alloc(), &ring, 0, 4)?;
-    assert_eq!(rt; ones.as_slice(), &[1, 1, 1, 1, 1, 1, 1, 1, 1, 1]);
+    assert_eq!(rt; ones.as_slice(), [1, 1, 1, 1, 1, 1, 1, 1, 1, 1].as_slice());
     let binomials = weights(rt.alloc(), &ring, 1, 5)?;
     assert_eq!(rt;
         binomials.as_slice(),
-        &[1, 1, 1, 1, 2, 1, 1, 3, 3, 1, 1, 4, 6, 4, 1]
+        [1, 1, 1, 1, 2, 1, 1, 3, 3, 1, 1, 4, 6, 4, 1].as_slice()
     );
     let gaussian = weights(rt.alloc(), &ring, 2, 5)?;
     assert_eq!(rt;
         gaussian.as_slice(),
-        &[1, 1, 1, 1, 3, 1, 1, 7, 7, 1, 1, 15, 35, 15, 1]
+        [1, 1, 1, 1, 3, 1, 1, 7, 7, 1, 1, 15, 35, 15, 1].as_slice()
     );
     assert_eq!(rt; weights(rt.alloc(), &ring, 1, 64)?.len(), 2080);
     Ok(())
@@ -85,16 +85,17 @@ fn catalan_numbers(rt: HostRuntime) -> Result<(), Fail> {
     let row = binary_trees(rt.alloc(), &ring, 0, 13)?;
     assert_eq!(rt;
         row.as_slice(),
-        &[
+        [
             1, 1, 2, 5, 14, 42, 132, 429, 1430, 4862, 16796, 58786, 208012,
         ]
+        .as_slice()
     );
     let dual = Dual { below: ring };
     let same = binary_trees(rt.alloc(), &dual, 0, 13)?;
     assert_eq!(rt; same.as_slice(), row.as_slice());
     let four = BinaryPolynomials::new(7)?;
     let short = binary_trees(rt.alloc(), &four, 2, 6)?;
-    assert_eq!(rt; short.as_slice(), &[1, 1, 0, 3, 0, 0]);
+    assert_eq!(rt; short.as_slice(), [1, 1, 0, 3, 0, 0].as_slice());
     assert_eq!(rt; binary_trees(rt.alloc(), &ring, 0, 64)?.len(), 64);
     Ok(())
 }

@@ -9,13 +9,19 @@ fn examples(rt: HostRuntime) -> Result<(), Fail> {
     let ring = Residues::new(1000)?;
     let polynomials = BinaryPolynomials::new(7)?;
     let catalan = tabulate_trees(rt.alloc(), &ring, 0, 8)?;
-    assert_eq!(rt; catalan.as_slice(), &Example::Catalan.terms());
+    assert_eq!(rt; catalan.as_slice(), Example::Catalan.terms().as_slice());
     let factorials = tabulate_trees(rt.alloc(), &ring, 1, 8)?;
-    assert_eq!(rt; factorials.as_slice(), &Example::Factorials.terms());
+    assert_eq!(rt;
+        factorials.as_slice(),
+        Example::Factorials.terms().as_slice()
+    );
     let at_two = tabulate_trees(rt.alloc(), &ring, 2, 8)?;
-    assert_eq!(rt; at_two.as_slice(), &Example::AtTwo.terms());
+    assert_eq!(rt; at_two.as_slice(), Example::AtTwo.terms().as_slice());
     let over = tabulate_trees(rt.alloc(), &polynomials, 2, 8)?;
-    assert_eq!(rt; over.as_slice(), &Example::OverPolynomials.terms());
+    assert_eq!(rt;
+        over.as_slice(),
+        Example::OverPolynomials.terms().as_slice()
+    );
     Ok(())
 }
 
