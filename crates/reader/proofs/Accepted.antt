@@ -1,8 +1,8 @@
 -- The systems of accepted texts are solvable.
-use Rattle.std.proofs.Common.{◌≡◌, ℕ, ◌+◌, ◌-◌, Bool, true, false, not, T, List, [], ◌∷◌, ◌++◌, sym, refl, ap, ◌∙◌, subst, append_assoc, arith}
+use Rattle.std.proofs.Common.{◌≡◌, ℕ, Bool, true, false, not, T, List, [], ◌∷◌, ◌++◌, sym, refl, ap, ◌∙◌, subst, append_assoc, arith}
 use mathlib.Core.List.{nil≢cons, head-eq_of_cons-eq, tail-eq_of_cons-eq}
 use Rattle.systems.specs.Solving.{Solvable, Stands}
-use Rattle.systems.specs.Trees.{Tree, Equation, System, UnknownIn, BareIn, EquationOf, UnknownOf}
+use Rattle.systems.specs.Trees.{Equation, System, UnknownIn, BareIn, UnknownOf}
 use Rattle.systems.proofs.Standing.{placed}
 use Rattle.tokens.specs.Kinds.{Kind, capital, equals, semicolon}
 use Rattle.tokens.specs.Tokens.{Token}
@@ -11,7 +11,7 @@ use Rattle.reader.specs.declared.fault.Rule.TheVariants.{Repeated, TooEarly}
 use Rattle.reader.specs.Examining.{Accepts}
 use Rattle.reader.specs.Rules.{Within, Breaks, kinds, Clean, Known}
 use Rattle.reader.specs.Sorts.{count, is_semicolon}
-use Rattle.reader.proofs.Derivations.{Line, sum_tokens, line_tokens, tokens_of, sum_tree, line_equation, system_of, has}
+use Rattle.reader.proofs.Derivations.{Line, sum_tokens, line_tokens, tokens_of, line_equation, system_of, has}
 use Rattle.reader.proofs.Related.{lines_are, system_from}
 use Rattle.reader.proofs.Faults.{has_unknown, not_unknown, kinds_split}
 use Rattle.reader.proofs.Occurrences.{Occurs, sum_occurs}

@@ -1,15 +1,13 @@
 -- The machine takes exactly the systems, and stops exactly where no continuation is a system.
-use Rattle.std.proofs.Common.{◌≡◌, ℕ, ◌↔◌, List, [], ◌∷◌, ◌++◌, sym, refl, ap, ◌∙◌, subst, append_assoc, append-nil}
+use Rattle.std.proofs.Common.{◌≡◌, ◌↔◌, List, [], ◌∷◌, ◌++◌, sym, refl, ap, ◌∙◌, subst}
 use mathlib.Core.Option.{Option, none, some, none-ne-some}
-use Rattle.tokens.specs.declared.token.Group.{Group}
-use Rattle.tokens.specs.declared.token.Group.TheVariants.{Round as round, Square as square}
-use Rattle.tokens.specs.Kinds.{Kind, number, capital, small, equals, semicolon, plus, minus, star, opens, closes, stray}
+use Rattle.tokens.specs.Kinds.{Kind, number, capital, equals, semicolon, closes}
 use Rattle.reader.specs.Grammar.{IsSystem, Viable}
 use Rattle.systems.specs.Trees.{System}
-use Rattle.reader.proofs.Derivations.{Term, Sum, Line, tokens_of, system_of}
+use Rattle.reader.proofs.Derivations.{Term, Line, tokens_of, system_of}
 use Rattle.reader.proofs.Related.{system_is, system_from}
-use Rattle.reader.proofs.Machine.{Pre, Mul, with_factor, with_term, Place, side, within, State, at, after_left, need, have, close, step, next, run, run-++, run_none, complete, close_same}
-use Rattle.reader.proofs.Sound.{read, start, sound}
+use Rattle.reader.proofs.Machine.{Pre, with_factor, with_term, Place, side, within, State, at, after_left, need, have, run, run-++, run_none, complete, close_same}
+use Rattle.reader.proofs.Sound.{start, sound}
 
 -- a shortest way to end
 abbrev shut : Place → List Kind

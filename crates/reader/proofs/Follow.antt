@@ -1,27 +1,26 @@
 -- The reader's fields follow the machine.
-use Rattle.std.proofs.Common.{◌≡◌, ℕ, suc, ◌+◌, ◌-◌, ◌<◌, ◌≤◌, Bool, true, false, cond, not, ◌&&◌, ◌||◌, T, eqb, ltb, leb, ◌≢◌, List, [], ◌∷◌, ◌++◌, length, get_or, set, Some, None, Option as Opt, sym, refl, ap, ◌∙◌, subst, append_assoc, append-nil, arith, length-set, get_or-set_other, get_or-set_same, le-ltb, lt-ltb, eq-eqb, ne_eqb, eqb-true, le-leb, leb-false, leb-true}
-use mathlib.Core.Path.{fun_ext}
+use Rattle.std.proofs.Common.{◌≡◌, ℕ, ◌+◌, ◌-◌, ◌<◌, ◌≤◌, Bool, true, false, cond, not, ◌&&◌, ◌||◌, T, eqb, ltb, leb, List, [], ◌∷◌, ◌++◌, length, get_or, set, Some, None, Option as Opt, sym, refl, ap, ◌∙◌, subst, append_assoc, arith, length-set, get_or-set_other, get_or-set_same, lt-ltb, eq-eqb, ne_eqb, leb-false}
 use mathlib.Core.Option.{Option, none, some}
 use native.Mathlib.Decide.{ℕ_discrete}
-use borrow.Author.Tests.{eqb-false, lt-leb}
+use borrow.Author.Tests.{eqb-false}
 use Rattle.tokens.specs.declared.token.Group.{Group}
 use Rattle.tokens.specs.declared.token.Group.TheVariants.{Round as round, Square as square}
 use Rattle.reader.specs.declared.progress.Phase.{Phase}
 use Rattle.reader.specs.declared.progress.Phase.TheVariants.{Start, Between, Left, Operand, Operator}
 use Rattle.reader.specs.declared.progress.Progress.{Progress}
 use Rattle.tokens.specs.Kinds.{Kind, number, capital, small, equals, semicolon, plus, minus, star, opens, closes, stray}
-use Rattle.reader.proofs.Derivations.{Factor, f_number, f_capital, f_small, f_group, Term, Sum, Line, term_tokens, sum_tokens, tokens_of}
-use Rattle.reader.specs.Sorts.{count, is_semicolon, is_opening, is_closing, is_square, opens_square, closes_square, is_stray, is_node, is_star, digits_of}
+use Rattle.reader.proofs.Derivations.{Term, Line, term_tokens, sum_tokens, tokens_of}
+use Rattle.reader.specs.Sorts.{count, is_opening, is_closing, is_square, opens_square, closes_square, is_stray, is_node, is_star, digits_of}
 use Rattle.reader.specs.declared.fault.Rule.{Rule}
 use Rattle.reader.specs.declared.fault.Rule.TheVariants.{NoToken, LongNumber, NotAllowed, TooDeep, Repeated, TooEarly, TooManyNodes}
-use Rattle.reader.specs.Rules.{groups, brackets, number_of}
-use Rattle.reader.proofs.Derivations.{has, nodes_of, Side}
-use Rattle.reader.specs.Inner.Progress.{allowed, next_phase, between, in_right, next_left, next_depth, next_squares, one_more, next_stack, next_defined, innermost, after, nothing_read, if_capital, defined_again, named_early, breaks}
-use Rattle.reader.proofs.Machine.{Pre, p_none, p_plus, p_minus, Mul, m_none, m_star, with_factor, with_term, Place, side, within, State, at, after_left, need, have, close, finish_eq, step}
-use Rattle.reader.proofs.Sound.{pre_tokens, mul_tokens, place_tokens, read, Reads, reads, with_term_tokens}
+use Rattle.reader.specs.Rules.{groups, brackets}
+use Rattle.reader.proofs.Derivations.{has, nodes_of}
+use Rattle.reader.specs.Inner.Progress.{allowed, next_phase, between, in_right, next_left, next_depth, next_squares, one_more, next_stack, next_defined, innermost, after, if_capital, defined_again, named_early, breaks}
+use Rattle.reader.proofs.Machine.{Pre, p_none, Mul, m_none, with_term, Place, side, within, State, at, after_left, need, have, step}
+use Rattle.reader.proofs.Sound.{pre_tokens, mul_tokens, read, Reads, reads, with_term_tokens}
 use Rattle.reader.proofs.Sides.{home, left_of, place_right, count-++, over_right, at_start, side_need, side_have, same_right}
 use Rattle.reader.proofs.Signs.{Letter}
-use Rattle.reader.proofs.Faults.{is_none, name_test, test, first, rules, stepped}
+use Rattle.reader.proofs.Faults.{is_none, name_test, test, first, rules}
 
 abbrev pub phase_of : State → Phase
 phase_of (at []) = Start

@@ -1,10 +1,9 @@
 -- The reader as a machine that takes one token at a time and keeps the derivation so far.
-use Rattle.std.proofs.Common.{◌≡◌, ℕ, ◌⊎◌, ◌↔◌, List, [], ◌∷◌, ◌++◌, sym, refl, ap, ◌∙◌, subst, inl, inr, append_assoc, append-nil}
+use Rattle.std.proofs.Common.{◌≡◌, ℕ, List, [], ◌∷◌, ◌++◌, sym, refl, ap, ◌∙◌, append_assoc, append-nil}
 use mathlib.Core.Option.{Option, none, some}
 use Rattle.tokens.specs.declared.token.Group.{Group}
 use Rattle.tokens.specs.declared.token.Group.TheVariants.{Round as round, Square as square}
 use Rattle.tokens.specs.Kinds.{Kind, number, capital, small, equals, semicolon, plus, minus, star, opens, closes, stray}
-use Rattle.reader.specs.Grammar.{IsSystem, Viable}
 use Rattle.reader.proofs.Derivations.{Factor, f_number, f_capital, f_small, f_group, Term, t_one, t_times, Sum, s_one, s_plus, s_minus, Line, factor_tokens, term_tokens, sum_tokens, line_tokens, tokens_of}
 
 -- the sum before a term, with its sign, if any

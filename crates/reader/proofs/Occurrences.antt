@@ -1,12 +1,12 @@
 -- An unknown that stands in a tree has its token, and outside all brackets if it stands outside all brackets.
-use Rattle.std.proofs.Common.{◌≡◌, ℕ, ◌+◌, Bool, true, false, cond, T, ◌⊎◌, List, [], ◌∷◌, ◌++◌, sym, refl, ap, ◌∙◌, inl, inr, append_assoc, arith}
+use Rattle.std.proofs.Common.{◌≡◌, ℕ, Bool, true, false, T, ◌⊎◌, List, [], ◌∷◌, ◌++◌, sym, refl, ap, ◌∙◌, inl, inr, append_assoc, arith}
 use Rattle.systems.specs.Trees as Trees
 use Rattle.systems.specs.Trees.{Tree, UnknownIn, BareIn}
 use Rattle.tokens.specs.declared.token.Group.TheVariants.{Round, Square}
 use Rattle.tokens.specs.Kinds.{Kind, capital, plus, minus, star, opens, closes}
 use Rattle.reader.specs.Sorts.{count, opens_square, closes_square}
 use Rattle.reader.proofs.Derivations.{Factor, f_number, f_capital, f_small, f_group, Term, t_one, t_times, Sum, s_one, s_plus, s_minus, factor_tokens, term_tokens, sum_tokens, factor_tree, term_tree, sum_tree}
-use Rattle.reader.proofs.Balance.{Balanced, term_balanced, sum_balanced}
+use Rattle.reader.proofs.Balance.{term_balanced, sum_balanced}
 use Rattle.reader.proofs.Sides.{count-++}
 
 -- the unknown stands in the tree; if bare, outside all brackets

@@ -12,7 +12,7 @@ use Rattle.tokens.proofs.Listing.{tokens_from, only_tokens}
 use Rattle.reader.specs.declared.fault.Rule.{Rule}
 use Rattle.reader.specs.declared.fault.Rule.TheVariants.{NotAllowed, NoEquation}
 use Rattle.reader.specs.declared.fault.TextFault.{TextFault}
-use Rattle.reader.specs.declared.progress.Phase.TheVariants.{Start, Between, Left, Operand, Operator}
+use Rattle.reader.specs.declared.progress.Phase.TheVariants.{Between}
 use Rattle.reader.specs.declared.progress.Progress.{Progress}
 use Rattle.systems.specs.Trees.{System}
 use Rattle.reader.specs.Examining.{Accepts, fault, Faulty, product_signs, Examined}
@@ -20,7 +20,7 @@ use Rattle.reader.specs.Nodes.{nodes}
 use Rattle.reader.specs.Inner.Progress.{after, breaks, nothing_read, missing, if_capital}
 use Rattle.reader.specs.Rules.{kinds, Clean}
 use Rattle.reader.specs.Sorts.{count, is_star}
-use Rattle.reader.proofs.Derivations.{Line, system_of, has, nodes_of}
+use Rattle.reader.proofs.Derivations.{Line, system_of, has}
 use Rattle.reader.proofs.Related.{system_from}
 use Rattle.reader.proofs.Machine.{State, at, after_left, need, have, step, run, complete}
 use Rattle.reader.proofs.Sound.{start, sound}
@@ -28,7 +28,7 @@ use Rattle.reader.proofs.Sizes.{same_nodes}
 use Rattle.reader.proofs.Faults.{name_test, test, first, rules, stepped, steps, least, Least, ascending, among_all, Scan, stop, end, scan, Scanned, scanned, not_none, unknown}
 use Rattle.reader.proofs.Follow.{Code, phase_of, unbroken, follows, told, told_cond, same_tests, same_name}
 use Rattle.reader.proofs.Signs.{Letter, Letters, letters, all_letters, star_signs}
-use Rattle.reader.proofs.Answering.{answer_scan, examined_scan}
+use Rattle.reader.proofs.Answering.{examined_scan}
 
 blank : (n c : ℕ) → get_or (replicate n false) c false ≡ false
 blank zero c = refl

@@ -1,5 +1,5 @@
 -- The relations of the grammar hold of exactly the tokens and trees of derivations.
-use Rattle.std.proofs.Common.{◌≡◌, ℕ, List, [], ◌∷◌, ◌++◌, refl, ap}
+use Rattle.std.proofs.Common.{◌≡◌, List, [], ◌∷◌, ◌++◌, refl, ap}
 use Rattle.systems.specs.Trees as Trees
 use Rattle.systems.specs.Trees.{Tree, Equation, System}
 use Rattle.tokens.specs.declared.token.Group.TheVariants.{Round, Square}

@@ -1,14 +1,14 @@
 -- Where a state stands: the whole equations before, and the part of a right side that is read.
-use Rattle.std.proofs.Common.{◌≡◌, ℕ, ◌+◌, Bool, true, false, cond, T, ◌↔◌, List, [], ◌∷◌, ◌++◌, sym, refl, ap, ◌∙◌, subst, append_assoc, append-nil, arith}
+use Rattle.std.proofs.Common.{◌≡◌, ℕ, ◌+◌, Bool, true, false, cond, T, List, [], ◌∷◌, ◌++◌, sym, refl, ap, ◌∙◌, subst, append_assoc, arith}
 use mathlib.Core.Option.{Option, none, some}
 use mathlib.Core.List.{append_cancel_left, tail-eq_of_cons-eq}
 use Rattle.tokens.specs.declared.token.Group.{Group}
 use Rattle.tokens.specs.declared.token.Group.TheVariants.{Round as round, Square as square}
 use Rattle.tokens.specs.Kinds.{Kind, number, capital, small, equals, semicolon, plus, minus, star, opens, closes, stray}
-use Rattle.reader.proofs.Derivations.{Factor, f_number, f_capital, f_small, f_group, Term, t_one, t_times, Sum, s_one, s_plus, s_minus, Line, factor_tokens, term_tokens, sum_tokens, line_tokens, tokens_of}
+use Rattle.reader.proofs.Derivations.{Factor, f_number, f_capital, f_small, f_group, Term, t_one, t_times, Sum, s_one, s_plus, s_minus, Line, factor_tokens, term_tokens, sum_tokens, tokens_of}
 use Rattle.reader.specs.Sorts.{count, is_semicolon}
 use Rattle.reader.proofs.Derivations.{Side}
-use Rattle.reader.proofs.Machine.{Pre, p_none, p_plus, p_minus, Mul, m_none, m_star, with_factor, with_term, Place, side, within, State, at, after_left, need, have, close, finish_eq, step, next, run, run-++, reads_all}
+use Rattle.reader.proofs.Machine.{Pre, p_none, p_plus, p_minus, Mul, m_none, m_star, Place, side, within, State, at, after_left, need, have, close, next, run, run-++, reads_all}
 use Rattle.reader.proofs.Sound.{pre_tokens, mul_tokens, place_tokens, read, start, sound}
 
 abbrev pub home : Place → List Line

@@ -4,7 +4,7 @@ use borrow.Author.Tests.{both_ways}
 use Rattle.std.proofs.lemmas.Bool.{and_parts}
 use Rattle.tokens.specs.declared.token.Group.TheVariants.{Round, Square}
 use Rattle.tokens.specs.Kinds.{Kind, number, capital, small, equals, semicolon, plus, minus, star, opens, closes, stray, digit, separator, upper, lower, single}
-use Rattle.tokens.specs.Tokens.{Token, token, starts_digit, Every, Spells, run, alone}
+use Rattle.tokens.specs.Tokens.{Token, starts_digit, Every, Spells, run, alone}
 use Rattle.tokens.proofs.Singles.{of_single}
 use Rattle.tokens.proofs.Listing.{longer, join, shape, tokens_from}
 use Rattle.reader.specs.Examining.{product_signs}

@@ -1,5 +1,5 @@
 -- The nodes of trees and the tokens that they are written with.
-use Rattle.std.proofs.Common.{◌≡◌, ℕ, ◌+◌, Bool, List, [], ◌∷◌, ◌++◌, refl, arith}
+use Rattle.std.proofs.Common.{◌≡◌, List, [], ◌∷◌, refl, arith}
 use Rattle.tokens.specs.declared.token.Group.TheVariants.{Round, Square}
 use Rattle.tokens.specs.Kinds.{plus, minus, star, closes}
 use Rattle.reader.specs.Sorts.{count, is_node}

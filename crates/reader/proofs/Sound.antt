@@ -1,12 +1,11 @@
 -- What the machine has read is what its derivation so far is written with.
-use Rattle.std.proofs.Common.{◌≡◌, ℕ, ◌⊎◌, ◌↔◌, List, [], ◌∷◌, ◌++◌, sym, refl, ap, ◌∙◌, subst, inl, inr, append_assoc, append-nil}
+use Rattle.std.proofs.Common.{◌≡◌, List, [], ◌∷◌, ◌++◌, sym, refl, ap, ◌∙◌, subst, append_assoc, append-nil}
 use mathlib.Core.Option.{Option, none, some}
 use Rattle.tokens.specs.declared.token.Group.{Group}
 use Rattle.tokens.specs.declared.token.Group.TheVariants.{Round as round, Square as square}
 use Rattle.tokens.specs.Kinds.{Kind, number, capital, small, equals, semicolon, plus, minus, star, opens, closes, stray}
-use Rattle.reader.specs.Grammar.{IsSystem, Viable}
-use Rattle.reader.proofs.Derivations.{Factor, f_number, f_capital, f_small, f_group, Term, t_one, t_times, Sum, s_one, s_plus, s_minus, Line, factor_tokens, term_tokens, sum_tokens, line_tokens, tokens_of}
-use Rattle.reader.proofs.Machine.{Pre, p_none, p_plus, p_minus, Mul, m_none, m_star, with_factor, with_term, Place, side, within, State, at, after_left, need, have, close, finish_eq, step, next, run, run-++, run_none, complete}
+use Rattle.reader.proofs.Derivations.{Factor, f_number, f_capital, f_small, f_group, Term, Line, factor_tokens, term_tokens, sum_tokens, line_tokens, tokens_of}
+use Rattle.reader.proofs.Machine.{Pre, p_none, p_plus, p_minus, Mul, m_none, m_star, with_factor, with_term, Place, side, within, State, at, after_left, need, have, close, finish_eq, step, next, run}
 
 abbrev pub pre_tokens : Pre → List Kind
 pre_tokens p_none = []

@@ -1,5 +1,5 @@
 -- Completed names, and the layout of a system.
-use Rattle.std.proofs.Common.{◌≡◌, ℕ, ◌+◌, ◌-◌, List, [], ◌∷◌, ◌++◌, map, length, get_or, take, drop, Some, None, Option, sym, refl, ap, ◌∙◌, arith}
+use Rattle.std.proofs.Common.{◌≡◌, ℕ, ◌+◌, ◌-◌, List, [], ◌∷◌, ◌++◌, map, length, get_or, take, drop, Some, None, Option, refl, ap, ◌∙◌, arith}
 use mathlib.Core.Path.{fun_ext}
 use mathlib.Core.List.{map-append}
 use Rattle.std.proofs.lemmas.List.{take_at, drop_at}
@@ -10,7 +10,7 @@ use Rattle.records.specs.declared.record.Node.{Node}
 use Rattle.records.specs.declared.record.Node.TheVariants as node
 use Rattle.records.specs.declared.record.Record.{Record}
 use Rattle.records.specs.declared.writer.Writer.{Writer}
-use Rattle.records.specs.Layout.{entry, node_of, operands, laid, laid_all, root, layout}
+use Rattle.records.specs.Layout.{entry, node_of, operands, laid, laid_all, layout}
 use Rattle.records.specs.Inner.Writing.{completed, Written}
 use Rattle.records.proofs.Laying.{laid_all_length}
 

@@ -1,6 +1,6 @@
 -- What stands where in the records of a system.
-use Rattle.std.proofs.Common.{◌≡◌, ℕ, zero, suc, ◌+◌, ◌-◌, ◌<◌, ◌≤◌, ◌⊎◌, List, [], ◌∷◌, ◌++◌, length, Some, None, Option, sym, refl, ap, ◌∙◌, subst, inl, inr, append_assoc, arith, length-append}
-use mathlib.Core.Option.{some, none, none-ne-some}
+use Rattle.std.proofs.Common.{◌≡◌, ℕ, zero, suc, ◌+◌, ◌⊎◌, List, [], ◌∷◌, ◌++◌, length, Some, None, Option, sym, refl, ap, ◌∙◌, inl, inr, append_assoc, arith, length-append}
+use mathlib.Core.Option.{some, none-ne-some}
 use lib.ListN.{get_elem?}
 use Rattle.systems.specs.Trees as Trees
 use Rattle.systems.specs.Trees.{Tree, Equation, System}
@@ -8,7 +8,7 @@ use Rattle.reader.specs.Nodes.{nodes_in, nodes}
 use Rattle.records.specs.declared.record.Node.{Node}
 use Rattle.records.specs.declared.record.Record.{Record}
 use Rattle.records.specs.Layout.{entry, root_at, node_of, operands, laid, laid_all}
-use Rattle.records.proofs.Laying.{some_nodes, operands_length, laid_length}
+use Rattle.records.proofs.Laying.{operands_length, laid_length}
 
 -- ---- lists
 

@@ -1,10 +1,10 @@
 -- The products among the records are the product signs of the text.
-use Rattle.std.proofs.Common.{◌≡◌, ℕ, ◌+◌, Bool, false, cond, List, [], ◌∷◌, ◌++◌, Some, None, Option, sym, refl, ap, ◌∙◌, subst, arith}
+use Rattle.std.proofs.Common.{◌≡◌, ℕ, ◌+◌, cond, List, [], ◌∷◌, ◌++◌, Some, None, Option, sym, refl, ap, ◌∙◌, subst, arith}
 use Rattle.systems.specs.Trees as Trees
 use Rattle.systems.specs.Trees.{Tree, System}
 use Rattle.tokens.specs.declared.token.Group.TheVariants.{Round, Square}
-use Rattle.tokens.specs.Kinds.{Kind, semicolon, plus, minus, star, closes}
-use Rattle.tokens.proofs.Listing.{tokens_from, only_tokens}
+use Rattle.tokens.specs.Kinds.{semicolon, plus, minus, star, closes}
+use Rattle.tokens.proofs.Listing.{only_tokens}
 use Rattle.reader.specs.Examining.{Accepts, product_signs}
 use Rattle.reader.specs.Nodes.{nodes_in}
 use Rattle.reader.specs.Rules.{kinds}

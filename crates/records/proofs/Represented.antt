@@ -1,5 +1,5 @@
 -- The layout of a solvable system represents it.
-use Rattle.std.proofs.Common.{◌≡◌, ℕ, ◌+◌, ◌-◌, ◌<◌, cond, eqb, List, [], ◌∷◌, ◌++◌, length, Some, None, Option, sym, refl, ap, ◌∙◌, subst, inl, inr, append_assoc, arith, length-append, eq-eqb, ne_eqb}
+use Rattle.std.proofs.Common.{◌≡◌, ℕ, ◌+◌, cond, List, [], ◌∷◌, ◌++◌, length, Some, None, Option, sym, refl, ap, ◌∙◌, subst, inl, inr, append_assoc, arith, length-append, eq-eqb, ne_eqb}
 use mathlib.Core.Option.{some}
 use lib.ListN.{get_elem?}
 use Rattle.systems.specs.Solving.{Solvable}
@@ -10,7 +10,7 @@ use Rattle.reader.specs.Nodes.{nodes_in, nodes}
 use Rattle.records.specs.declared.record.Node.{Node}
 use Rattle.records.specs.declared.record.Node.TheVariants as node
 use Rattle.records.specs.declared.record.Record.{Record}
-use Rattle.records.specs.Layout.{entry, root_at, node_of, operands, laid, laid_all, root, layout}
+use Rattle.records.specs.Layout.{entry, root_at, node_of, laid, laid_all, root, layout}
 use Rattle.records.specs.Representing.{NodeAt, RootOf, StandsFor, Represents}
 use Rattle.records.proofs.Laying.{some_nodes, laid_length, laid_all_length}
 use Rattle.records.proofs.Lookups.{own_at, located}

@@ -1,5 +1,5 @@
 -- What stands on a sheet, push by push.
-use Rattle.std.proofs.Common.{◌≡◌, ℕ, suc, ◌+◌, ◌-◌, ◌<◌, ◌≤◌, Bool, true, false, cond, ltb, List, [], ◌∷◌, ◌++◌, length, get_or, drop, set, Some, None, Option as Opt, sym, refl, ap, ◌∙◌, subst, append_assoc, add-one, arith, length-append, drop-cons, lt-ltb}
+use Rattle.std.proofs.Common.{◌≡◌, ℕ, suc, ◌+◌, ◌-◌, ◌<◌, ◌≤◌, cond, List, [], ◌∷◌, ◌++◌, length, get_or, drop, set, Some, None, Option as Opt, sym, refl, ap, ◌∙◌, subst, append_assoc, add-one, arith, length-append, drop-cons, lt-ltb}
 use lib.Seq.{get_or-append_seam, set-append_seam}
 use Rattle.systems.specs.Trees as Trees
 use Rattle.systems.specs.Trees.{Tree}
@@ -16,7 +16,7 @@ use Rattle.records.specs.declared.writer.Pending.TheVariants.{Nothing, Plus, Min
 use Rattle.records.specs.declared.writer.Sheet.{Sheet}
 use Rattle.records.specs.Layout.{entry, root_at, node_of, operands, laid}
 use Rattle.records.specs.Inner.Writing.{last_of, pushed, multiplied, added, bracketed, owned, blank, finished}
-use Rattle.records.proofs.Laying.{with_tree, with_length, two_trees, one_tree, some_nodes}
+use Rattle.records.proofs.Laying.{with_tree, with_length, two_trees, one_tree}
 
 -- ---- what waits in a group, and the records of it
 

@@ -9,12 +9,11 @@ use Rattle.tokens.specs.declared.token.Group.TheVariants.{Round, Square}
 use Rattle.tokens.specs.Kinds.{Kind, number, capital, small, equals, semicolon, plus, minus, star, opens, closes, stray, digit}
 use Rattle.tokens.specs.Tokens.{Every}
 use Rattle.reader.specs.declared.progress.Progress.{Progress}
-use Rattle.reader.specs.Grammar.{decimal}
 use Rattle.reader.specs.Nodes.{nodes_in, nodes}
 use Rattle.reader.specs.Inner.Progress.{between}
 use Rattle.reader.specs.Sorts.{count, is_node, digits_of}
 use Rattle.reader.proofs.Derivations.{Factor, f_number, f_capital, f_small, f_group, Term, Sum, Line, term_tokens, sum_tokens, factor_tree, term_tree, sum_tree, line_equation, system_of, has, nodes_of}
-use Rattle.reader.proofs.Machine.{Pre, p_none, p_plus, p_minus, Mul, m_none, m_star, with_factor, with_term, Place, side, within, State, at, after_left, need, have, close, step}
+use Rattle.reader.proofs.Machine.{Pre, p_none, p_plus, p_minus, Mul, m_none, m_star, with_factor, with_term, Place, side, within, State, at, after_left, need, have, step}
 use Rattle.reader.proofs.Sound.{pre_tokens, mul_tokens}
 use Rattle.reader.proofs.Sides.{home, left_of, place_right, count-++}
 use Rattle.reader.proofs.Sizes.{term_size, sum_size, same_nodes}

@@ -1,5 +1,5 @@
 -- The laws of series: sum, product, numbers and bracket.
-use Rattle.std.proofs.Common.{◌≡◌, ℕ, zero, suc, ◌+◌, ◌-◌, ◌*◌, sym, refl, ap, ◌∙◌, ap₂}
+use Rattle.std.proofs.Common.{◌≡◌, ℕ, zero, suc, ◌+◌, ◌*◌, sym, refl, ap, ◌∙◌, ap₂}
 use Rattle.rings.specs.Model.{RingModel, code, one_of, sum, opposite, product}
 use Rattle.rings.specs.Total.{Total}
 use Rattle.rings.specs.Rules.{sum_zero}

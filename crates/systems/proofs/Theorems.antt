@@ -5,7 +5,7 @@ use Rattle.rings.specs.Model.{RingModel, Lawful, in_order, code, size_of, one_of
 use Rattle.rings.specs.Total.{Total}
 use Rattle.rings.specs.TotalLemmas.{total, code_is, code_size}
 use Rattle.series.specs.Weights.{power, weight}
-use Rattle.series.specs.Series.{Series, plus, minus, bracket}
+use Rattle.series.specs.Series.{Series, plus, minus}
 use Rattle.series.proofs.Sums.{times_code}
 use Rattle.systems.specs.Families.{Family, IsSeries, IsFamily}
 use Rattle.systems.specs.Trees.{Tree, System, UnknownOf}

@@ -4,7 +4,7 @@ use Rattle.tokens.specs.declared.lexer.Lexed.{Lexed}
 use Rattle.tokens.specs.Kinds.{Kind, separator}
 use Rattle.tokens.specs.Inner.Fronts.{past_separators}
 use Rattle.tokens.specs.Lexing.{seen, Front}
-use Rattle.tokens.specs.Tokens.{Token, token, Every, Spells, Tokens, ends, goes_on}
+use Rattle.tokens.specs.Tokens.{token, Every, Spells, ends, goes_on}
 use Rattle.tokens.proofs.Fronts.{gap, gap_split, gap_separators}
 use Rattle.tokens.proofs.Listing.{tokens_from, tokens_listed, only_tokens, some_word}
 

@@ -1,5 +1,5 @@
 -- What a text begins with, byte by byte.
-use Rattle.std.proofs.Common.{◌≡◌, ℕ, ◌+◌, ◌-◌, ◌<◌, ◌≤◌, Bool, true, false, cond, ◌&&◌, ◌||◌, eqb, leb, List, [], ◌∷◌, ◌++◌, length, get_or, take, drop, sym, refl, ap, ◌∙◌, subst, add-one, arith, length-drop, take_all, drop-cons, ne_eqb, leb-true}
+use Rattle.std.proofs.Common.{◌≡◌, ℕ, ◌+◌, ◌-◌, ◌<◌, ◌≤◌, Bool, true, false, cond, ◌&&◌, ◌||◌, leb, List, [], ◌∷◌, ◌++◌, length, get_or, take, drop, sym, refl, ap, ◌∙◌, subst, add-one, arith, length-drop, take_all, drop-cons, ne_eqb, leb-true}
 use borrow.Author.Tests.{both_ways}
 use Rattle.tokens.specs.Kinds.{digit, separator}
 use Rattle.tokens.specs.Inner.Fronts.{past_separators, run_length}

@@ -1,4 +1,4 @@
-use Rattle.std.proofs.Common.{◌≡◌, ℕ, [], Option as Opt, sym, refl, ap, ◌∙◌, subst, arith}
+use Rattle.std.proofs.Common.{ℕ, [], Option as Opt, sym, ◌∙◌, subst, arith}
 use Rattle.tokens.proofs.Cutting.{fewer, within, none_left}
 use Rattle.tokens.proofs.Listing.{tokens_from, tokens_listed}
 use Rattle.reader.specs.Examining.{Examined, of_bytes}

@@ -1,4 +1,4 @@
-use Rattle.std.proofs.Common.{◌≡◌, true, false, not, sym, refl, ap, ◌∙◌, arith}
+use Rattle.std.proofs.Common.{not, ap, ◌∙◌, arith}
 use Rattle.tokens.specs.Lexing.{seen}
 use Rattle.tokens.proofs.Cutting.{fewer, within}
 use Rattle.reader.proofs.Reading.{seeking, lacking, no_capital, found, passed, found_none}
