@@ -5,9 +5,4 @@ pub mod Total
 pub mod Modular
 pub mod Polynomials
 pub mod Duals
-pub mod DualsLemmas
-pub mod Refused
-pub mod TotalLemmas
-pub mod Rules
-pub mod Remainders
-pub mod Divided
+pub mod Lemmas

@@ -2,7 +2,7 @@
 ghost use Rattle.std.specs.Prelude.{◌≡◌, ◌/◌, ◌%◌, ◌^◌, ◌≤◌};
 ghost use Rattle.rings.specs.Duals.{dual, dual_order, join, side};
 ghost use Rattle.rings.specs.Model.{code, if_in_order, size_of};
-ghost use Rattle.rings.specs.DualsLemmas.{dual_lawful};
+ghost use Rattle.rings.specs.Lemmas.Duals.{dual_lawful};
 
 use super::{Ring, RingFault, clipped};
 

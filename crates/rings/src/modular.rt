@@ -2,7 +2,7 @@
 ghost use Rattle.std.specs.Prelude.{◌≡◌, ◌^◌, ◌≤◌};
 ghost use Rattle.rings.specs.Answers.{through};
 ghost use Rattle.rings.specs.Modular.{MakesResidues, residues};
-ghost use Rattle.rings.specs.Remainders.{residues_laws};
+ghost use Rattle.rings.specs.Lemmas.Remainders.{residues_laws};
 
 use super::{Ring, RingFault, clipped};
 

@@ -2,7 +2,7 @@
 ghost use Rattle.rings.specs.Answers.{through};
 ghost use Rattle.rings.specs.Polynomials.{MakesPolynomials, polynomials};
 ghost use Rattle.std.specs.Prelude.{◌≡◌};
-ghost use Rattle.rings.specs.Divided.{polynomials_laws};
+ghost use Rattle.rings.specs.Lemmas.Divided.{polynomials_laws};
 
 use super::{Ring, RingFault, clipped};
 use binary::Divisor;

@@ -1,6 +1,6 @@
 -- What is known where nothing refuses a table, and where want of memory does.
 use Rattle.std.proofs.Common.{◌≡◌, ℕ, ◌<◌, ◌≤◌, Bool, true, false, cond, ◌&&◌, ltb, leb, Ok, Err, Result, sym, refl, subst, ltb-true, leb-true}
-use Rattle.rings.specs.Refused.{not_ok}
+use Rattle.rings.specs.Lemmas.Refused.{not_ok}
 use Rattle.rings.specs.Model.{RingModel, Order, in_order, size_of}
 use Rattle.series.specs.declared.fault.TableFault.{TableFault}
 use Rattle.series.specs.declared.fault.TableFault.TheVariants.{Ring, Base, Length, Memory}

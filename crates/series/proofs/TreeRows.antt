@@ -4,8 +4,8 @@ use native.Mathlib.Decide.{dec_le}
 use Rattle.std.proofs.lemmas.List.{get_or_append_left, get_or_push, length_push}
 use Rattle.rings.specs.Model.{RingModel, Lawful, in_order, code, size_of, one_of}
 use Rattle.rings.specs.Total.{Total}
-use Rattle.rings.specs.TotalLemmas.{total, one_below, code_size}
-use Rattle.rings.specs.Rules.{sum_zero}
+use Rattle.rings.specs.Lemmas.Total.{total, one_below, code_size}
+use Rattle.rings.specs.Lemmas.Rules.{sum_zero}
 use Rattle.series.specs.Series.{Series, times, plus, ones, number, bracket}
 use Rattle.series.specs.Terms.{listed}
 use Rattle.series.specs.Trees.{HoldsAt, IsTreeRow}

@@ -3,8 +3,8 @@ use Rattle.std.proofs.Common.{◌≡◌, ℕ, ◌%◌, ◌<◌, sym, refl, ap, �
 use native.Mathlib.Nat.{zero-mod}
 use Rattle.rings.specs.Model.{RingModel, Lawful, in_order, code, size_of, one_of, sum, product}
 use Rattle.rings.specs.Duals.{dual, join}
-use Rattle.rings.specs.TotalLemmas.{size_pos, one_below, sum_below, product_below, code_size, code_is, one_on, sum_on, product_on}
-use Rattle.rings.specs.DualsLemmas.{dual_lawful, below_on, first_join}
+use Rattle.rings.specs.Lemmas.Total.{size_pos, one_below, sum_below, product_below, code_size, code_is, one_on, sum_on, product_on}
+use Rattle.rings.specs.Lemmas.Duals.{dual_lawful, below_on, first_join}
 use Rattle.systems.specs.Carrying.{Carries}
 use Rattle.systems.specs.FirstParts.{first_part, CarriesFirstParts}
 use Rattle.systems.proofs.Theorems.{transfers}

@@ -2,7 +2,7 @@
 use Rattle.std.proofs.Common.{◌≡◌, ℕ, zero, suc, ◌+◌, sym, ap, ◌∙◌, suc-add, zero-add}
 use Rattle.rings.specs.Model.{RingModel, code, one_of, sum, opposite, product}
 use Rattle.rings.specs.Total.{Total}
-use Rattle.rings.specs.Rules.{sum_zero, zero_product, expand}
+use Rattle.rings.specs.Lemmas.Rules.{sum_zero, zero_product, expand}
 use Rattle.series.specs.Weights.{power}
 
 module _ {m : RingModel} (t : Total m) where

@@ -2,7 +2,7 @@
 use Rattle.std.proofs.Common.{◌≡◌, ℕ, zero, suc, ◌+◌, ◌*◌, sym, refl, ap, ◌∙◌, ap₂}
 use Rattle.rings.specs.Model.{RingModel, code, one_of, sum, opposite, product}
 use Rattle.rings.specs.Total.{Total}
-use Rattle.rings.specs.Rules.{sum_zero}
+use Rattle.rings.specs.Lemmas.Rules.{sum_zero}
 use Rattle.series.specs.Weights.{gauss, weight}
 use Rattle.series.specs.Series.{Series, weighted, times, plus, minus, ones, number, bracket}
 use Rattle.series.proofs.Sums.{sum_cong}

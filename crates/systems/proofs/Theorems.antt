@@ -3,7 +3,7 @@ use Rattle.std.proofs.Common.{◌≡◌, ℕ, zero, suc, ◌<◌, sym, ap, ◌�
 use mathlib.Core.Path.{fun_ext}
 use Rattle.rings.specs.Model.{RingModel, Lawful, in_order, code, size_of, one_of, sum, opposite, product}
 use Rattle.rings.specs.Total.{Total}
-use Rattle.rings.specs.TotalLemmas.{total, code_is, code_size}
+use Rattle.rings.specs.Lemmas.Total.{total, code_is, code_size}
 use Rattle.series.specs.Weights.{power, weight}
 use Rattle.series.specs.Series.{Series, plus, minus}
 use Rattle.series.proofs.Sums.{times_code}

@@ -1,6 +1,6 @@
 use Rattle.std.proofs.Common.{◌≡◌, ℕ, ◌+◌, ◌-◌, get_or, sym, refl, ap, ◌∙◌, ap₂, arith}
 use Rattle.rings.specs.Model.{sum, product}
-use Rattle.rings.specs.TotalLemmas.{total}
+use Rattle.rings.specs.Lemmas.Total.{total}
 use Rattle.series.specs.Series.{pair, weighted}
 use Rattle.series.specs.Terms.{listed, standing}
 use Rattle.series.proofs.Sums.{sum_of, sum_more, sum_all}

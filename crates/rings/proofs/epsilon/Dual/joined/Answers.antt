@@ -1,4 +1,4 @@
-use Rattle.rings.specs.DualsLemmas.{joined_is}
+use Rattle.rings.specs.Lemmas.Duals.{joined_is}
 use Rattle.rings.proofs.epsilon.Dual.joined.Goals as goal
 
 pub returns : goal.returns

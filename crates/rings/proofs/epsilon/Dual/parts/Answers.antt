@@ -1,7 +1,7 @@
 use Rattle.std.proofs.Common.{sym, ◌∙◌, arith}
 use native.Mathlib.Nat.{zero-mod, zero-div}
 use Rattle.rings.specs.Model.{size_of}
-use Rattle.rings.specs.DualsLemmas.{code_dual, code_none, side_positive}
+use Rattle.rings.specs.Lemmas.Duals.{code_dual, code_none, side_positive}
 use Rattle.rings.proofs.epsilon.Dual.parts.Goals as goal
 
 pub returns-then-s-eq0 : goal.returns-then-s-eq0

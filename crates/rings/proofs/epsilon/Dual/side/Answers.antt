@@ -1,5 +1,5 @@
 use Rattle.std.proofs.Common.{sym, ◌∙◌, arith}
-use Rattle.rings.specs.DualsLemmas.{side_fits, side_large}
+use Rattle.rings.specs.Lemmas.Duals.{side_fits, side_large}
 use Rattle.rings.proofs.epsilon.Dual.side.Goals as goal
 
 pub returns-then-s-le-MOST : goal.returns-then-s-le-MOST

@@ -1,6 +1,6 @@
 use Rattle.std.proofs.Common.{◌∙◌, ap₂}
 use Rattle.rings.specs.Model.{sum}
-use Rattle.rings.specs.DualsLemmas.{join_of, dual_sum}
+use Rattle.rings.specs.Lemmas.Duals.{join_of, dual_sum}
 use Rattle.rings.proofs.epsilon.DualRing.add.Goals as goal
 
 pub returns : goal.returns

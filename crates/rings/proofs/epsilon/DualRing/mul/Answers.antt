@@ -1,6 +1,6 @@
 use Rattle.std.proofs.Common.{◌∙◌, ap₂}
 use Rattle.rings.specs.Model.{sum, product}
-use Rattle.rings.specs.DualsLemmas.{join_of, dual_product}
+use Rattle.rings.specs.Lemmas.Duals.{join_of, dual_product}
 use Rattle.rings.proofs.epsilon.DualRing.mul.Goals as goal
 
 pub returns : goal.returns

@@ -1,6 +1,6 @@
 use Rattle.std.proofs.Common.{ap, ◌∙◌, ap₂}
 use Rattle.rings.specs.Model.{opposite}
-use Rattle.rings.specs.DualsLemmas.{join_of, dual_opposite}
+use Rattle.rings.specs.Lemmas.Duals.{join_of, dual_opposite}
 use Rattle.rings.proofs.epsilon.DualRing.neg.Goals as goal
 
 pub returns : goal.returns

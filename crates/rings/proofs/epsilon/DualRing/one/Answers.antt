@@ -1,5 +1,5 @@
 use Rattle.std.proofs.Common.{ℕ, ap, ◌∙◌}
-use Rattle.rings.specs.DualsLemmas.{join_of, dual_one}
+use Rattle.rings.specs.Lemmas.Duals.{join_of, dual_one}
 use Rattle.rings.proofs.epsilon.DualRing.one.Goals as goal
 
 pub returns : goal.returns

@@ -1,5 +1,5 @@
 use Rattle.std.proofs.Common.{Err, sym, ap, ◌∙◌, arith}
-use Rattle.rings.specs.DualsLemmas.{order_small, order_large, order_below}
+use Rattle.rings.specs.Lemmas.Duals.{order_small, order_large, order_below}
 use Rattle.rings.proofs.epsilon.DualRing.order.Goals as goal
 
 pub returns-then-size-gt-MOST : goal.returns-then-size-gt-MOST

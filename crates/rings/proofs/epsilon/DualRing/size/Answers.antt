@@ -1,5 +1,5 @@
 use Rattle.std.proofs.Common.{◌*◌, ◌∙◌, ap₂}
-use Rattle.rings.specs.DualsLemmas.{side_squared}
+use Rattle.rings.specs.Lemmas.Duals.{side_squared}
 use Rattle.rings.proofs.epsilon.DualRing.size.Goals as goal
 
 pub returns : goal.returns

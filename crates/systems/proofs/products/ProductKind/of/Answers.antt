@@ -1,7 +1,7 @@
 use Rattle.std.proofs.Common.{Ok, ap, ◌∙◌}
 use Rattle.std.proofs.lemmas.Result.{err_from_is_err_and}
 use Rattle.rings.specs.Answers.{through}
-use Rattle.rings.specs.TotalLemmas.{total}
+use Rattle.rings.specs.Lemmas.Total.{total}
 use Rattle.systems.specs.Kinds.{kind}
 use Rattle.systems.proofs.WeightLaws.{weight_laws}
 use Rattle.systems.proofs.Theorems.{series_rings}

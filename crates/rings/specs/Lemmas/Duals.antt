@@ -10,9 +10,9 @@ use Rattle.rings.specs.declared.fault.RingFault.TheVariants.{TooLarge}
 use Rattle.rings.specs.Faults.{raised}
 use Rattle.rings.specs.Model.{RingModel, Order, in_order, Laws, Lawful, if_in_order, clip, code, size_of, one_of, sum, opposite, product}
 use Rattle.rings.specs.Duals.{order_over, dual_order, side, join, dual}
-use Rattle.rings.specs.Refused.{not_ok}
-use Rattle.rings.specs.TotalLemmas.{total, size_off, size_pos, one_below, sum_below, opposite_below, product_below, code_is}
-use Rattle.rings.specs.Rules.{sum_zero, zero_product, expand}
+use Rattle.rings.specs.Lemmas.Refused.{not_ok}
+use Rattle.rings.specs.Lemmas.Total.{total, size_off, size_pos, one_below, sum_below, opposite_below, product_below, code_is}
+use Rattle.rings.specs.Lemmas.Rules.{sum_zero, zero_product, expand}
 
 -- ---- a dual ring in order is over a ring in order, of size at most 2^31
 
