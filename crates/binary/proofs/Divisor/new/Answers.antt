@@ -11,7 +11,7 @@ lower i j h = elim (dec_le (suc i) j) [ yes l ↦ l | no n ↦ absurd (let back 
 pub returns-then-f-lt2 : goal.returns-then-f-lt2
 returns-then-f-lt2 c d lo hi g = omega (arith, c.then-f-lt2.either, pow_mono lo, pow_mono hi, g.0, g.1)
 
--- where f's lowest 64 bits begin, counted from the top, is its degree
+-- the degree, from the number of zeros in front among 64 bits, and what the type of a divisor says of it
 found : (f : ℕ) → 2 ≤ f → f < 2 ^ 32 → (d : ℕ) → count_leading_zeros 64 f + suc d ≡ 64 → 2 ^ d ≤ f → f < 2 ^ suc d
     → (1 ≤ d) × (d ≤ 31) × HasDegree f d
 found f two few d e lo hi =
@@ -19,11 +19,7 @@ found f two few d e lo hi =
 
 pub invariant_of-result : goal.invariant_of-result
 invariant_of-result c =
-    record {
-      least = all.0;
-      most = all.1;
-      leads = all.2;
-    }
+    record { least = all.0; most = all.1; leads = all.2 }
   where
     at : (d : ℕ) × (count_leading_zeros 64 c.args.f + suc d ≡ 64) × (2 ^ d ≤ c.args.f) × (c.args.f < 2 ^ suc d)
     at = leading_top 64 c.args.f (omega arith) (omega arith)
