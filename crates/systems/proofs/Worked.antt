@@ -44,7 +44,7 @@ below f (suc k) = below f k && f k
 at : (f : ℕ → Bool) (k i : ℕ) → below f k ≡ true → i < k → f i ≡ true
 at f zero i h l = absurd (omega arith)
 at f (suc k) i h l =
-    let p = and_parts _ _ h in
+    let p : (below f k ≡ true) × (f k ≡ true) = and_parts _ _ h in
     elim (dec_le k i) [ yes le ↦ let e : k ≡ i = omega arith in subst (λ (j : ℕ). f j ≡ true) e p.1 | no gt ↦ at f k i p.0 (omega (arith, gt)) ]
 
 -- whether every equation holds at the indices below N
