@@ -10,10 +10,10 @@ fn answer(text: &[u8]) -> Result<(usize, usize), (u8, usize)> {
     }
 }
 
-pub fn accepted(rt: &impl Abort, text: &[u8], nodes: usize, products: usize) {
+pub(super) fn accepted(rt: &impl Abort, text: &[u8], nodes: usize, products: usize) {
     assert_eq!(rt; answer(text), Ok((nodes, products)), "{text:?}");
 }
 
-pub fn refused(rt: &impl Abort, text: &[u8], number: u8, place: usize) {
+pub(super) fn refused(rt: &impl Abort, text: &[u8], number: u8, place: usize) {
     assert_eq!(rt; answer(text), Err((number, place)), "{text:?}");
 }

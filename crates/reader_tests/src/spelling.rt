@@ -26,7 +26,7 @@ fn tokens(rt: HostRuntime) {
     refused(&rt, b"A=1;\xff", 11, 4);
 }
 
-// A system is equations such as A = sum ; and a sum is terms, a term factors.
+// A system is equations such as A = sum ;
 #[test]
 fn grammar(rt: HostRuntime) {
     // the text ends too early
@@ -50,8 +50,17 @@ fn grammar(rt: HostRuntime) {
         (b"A=1=1;", 3),
         (b"A=1;;", 4),
         (b"A=1;b", 4),
+    ] {
+        refused(&rt, text, 13, place);
+    }
+}
+
+// A sum is terms and a term factors, and a group is a factor.
+#[test]
+fn right_sides(rt: HostRuntime) {
+    for (text, place) in [
         // a sum begins with a factor, and one stands between two signs
-        (b"A=;", 2),
+        (&b"A=;"[..], 2),
         (b"A=-1;", 2),
         (b"A=1+;", 4),
         (b"A=1*-1;", 4),

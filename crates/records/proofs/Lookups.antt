@@ -1,7 +1,6 @@
 -- What stands where in the records of a system.
 use Rattle.std.proofs.Common.{◌≡◌, ℕ, zero, suc, ◌+◌, ◌⊎◌, List, [], ◌∷◌, ◌++◌, length, Some, None, Option, sym, refl, ap, ◌∙◌, inl, inr, append_assoc, arith, length-append}
-use mathlib.Core.Option.{some, none-ne-some}
-use lib.ListN.{get_elem?}
+use Rattle.std.specs.Prelude.{slice_get}
 use Rattle.systems.specs.Trees as Trees
 use Rattle.systems.specs.Trees.{Tree, Equation, System}
 use Rattle.reader.specs.Nodes.{nodes_in, nodes}
@@ -12,25 +11,25 @@ use Rattle.records.proofs.Laying.{operands_length, laid_length}
 
 -- ---- lists
 
-behind : (a b : List Record) (r : Record) (i : ℕ) → i ≡ length a → get_elem? (a ++ (r ∷ b)) i ≡ some r
-behind a b r i e = ap (get_elem? (a ++ (r ∷ b))) e ∙ go a
+behind : (a b : List Record) (r : Record) (i : ℕ) → i ≡ length a → slice_get (a ++ (r ∷ b)) i ≡ Some r
+behind a b r i e = ap (slice_get (a ++ (r ∷ b))) e ∙ go a
   where
-    go : (a : List Record) → get_elem? (a ++ (r ∷ b)) (length a) ≡ some r
+    go : (a : List Record) → slice_get (a ++ (r ∷ b)) (length a) ≡ Some r
     go [] = refl
     go (x ∷ a) = go a
 
+none_some : {X : Type 0} (x : X) → ◌≡◌ {A = Option X} None (Some x) → ⊥
+none_some x e = let z : ◌≡◌ {A = ℕ} 0 1 = cc in omega arith
+
 -- an element of two lists joined is one of the first or one of the second
-split_get : (a b : List Record) (i : ℕ) (x : Record) → get_elem? (a ++ b) i ≡ some x → (get_elem? a i ≡ some x) ⊎ ((q : ℕ) × (i ≡ length a + q) × (get_elem? b q ≡ some x))
+split_get : (a b : List Record) (i : ℕ) (x : Record) → slice_get (a ++ b) i ≡ Some x → (slice_get a i ≡ Some x) ⊎ ((q : ℕ) × (i ≡ length a + q) × (slice_get b q ≡ Some x))
 split_get [] b i x e = inr (i, omega arith, e)
 split_get (y ∷ a) b zero x e = inl e
 split_get (y ∷ a) b (suc i) x e = elim (split_get a b i x e) [ inl h ↦ inl h | inr h ↦ inr (h.0, omega (arith, h.1), h.2) ]
 
-only_get : (r : Record) (i : ℕ) (x : Record) → get_elem? (r ∷ []) i ≡ some x → (i ≡ 0) × (r ≡ x)
+only_get : (r : Record) (i : ℕ) (x : Record) → slice_get (r ∷ []) i ≡ Some x → (i ≡ 0) × (r ≡ x)
 only_get r zero x e = (refl, cc)
-only_get r (suc i) x e = absurd (none-ne-some _ e)
-
-none_some : (a : ℕ) → ◌≡◌ {A = Option ℕ} None (Some a) → ⊥
-none_some a e = let z : ◌≡◌ {A = ℕ} 0 1 = cc in omega arith
+only_get r (suc i) x e = absurd (none_some _ e)
 
 some_some : (a b : ℕ) → ◌≡◌ {A = Option ℕ} (Some a) (Some b) → a ≡ b
 some_some a b e = cc
@@ -39,9 +38,9 @@ module _ (names : ℕ → Node) where
   -- ---- the record of a tree
 
   -- records behind others, its own last
-  pub own_at : (pre post : List Record) (n : ℕ) (of : Option ℕ) (t : Tree) → length pre ≡ n → get_elem? (pre ++ (laid names n of t ++ post)) (root_at n t) ≡ some (entry (node_of names n t) of)
+  pub own_at : (pre post : List Record) (n : ℕ) (of : Option ℕ) (t : Tree) → length pre ≡ n → slice_get (pre ++ (laid names n of t ++ post)) (root_at n t) ≡ Some (entry (node_of names n t) of)
   own_at pre post n of t e =
-      ap (λ l. get_elem? l (root_at n t)) regroup
+      ap (λ l. slice_get l (root_at n t)) regroup
       ∙ behind (pre ++ operands names n t) post (entry (node_of names n t) of) (root_at n t) (omega (arith, length-append pre (operands names n t), operands_length names n t, e))
     where
       regroup : pre ++ (laid names n of t ++ post) ≡ (pre ++ operands names n t) ++ (entry (node_of names n t) of ∷ post)
@@ -50,7 +49,7 @@ module _ (names : ℕ → Node) where
   -- ---- the records that are told as right sides
 
   abbrev Unmarked : List Record → Type 0
-  Unmarked rs = (i : ℕ) (node : Node) (a : ℕ) → get_elem? rs i ≡ some (entry node (Some a)) → ⊥
+  Unmarked rs = (i : ℕ) (node : Node) (a : ℕ) → slice_get rs i ≡ Some (entry node (Some a)) → ⊥
 
   join_unmarked : (a b : List Record) → Unmarked a → Unmarked b → Unmarked (a ++ b)
   join_unmarked a b h k i node c e = elim (split_get a b i _ e) [ inl w ↦ h i node c w | inr w ↦ k w.0 node c w.2 ]
@@ -59,7 +58,7 @@ module _ (names : ℕ → Node) where
   one_unmarked node i x a e = none_some a (ap (λ (r : Record). r.unknown) (only_get (entry node None) i (entry x (Some a)) e).1)
 
   none_unmarked : Unmarked []
-  none_unmarked i node a e = none-ne-some _ e
+  none_unmarked i node a e = none_some _ e
 
   laid_unmarked : (n : ℕ) (t : Tree) → Unmarked (operands names n t) → Unmarked (laid names n None t)
   laid_unmarked n t h = join_unmarked (operands names n t) (entry (node_of names n t) None ∷ []) h (one_unmarked (node_of names n t))
@@ -82,19 +81,19 @@ module _ (names : ℕ → Node) where
     pub letter : a ≡ equation.left
     pub at_root : n + r ≡ root_at (n + nodes before) equation.right
 
-  pub located : (n : ℕ) (S : System) (a r : ℕ) (node : Node) → get_elem? (laid_all names n S) r ≡ some (entry node (Some a)) → Located n S a r
-  located n [] a r node e = absurd (none-ne-some _ e)
+  pub located : (n : ℕ) (S : System) (a r : ℕ) (node : Node) → slice_get (laid_all names n S) r ≡ Some (entry node (Some a)) → Located n S a r
+  located n [] a r node e = absurd (none_some _ e)
   located n (d ∷ S) a r node e = go (split_get (laid names n (Some d.left) d.right) (laid_all names (n + nodes_in d.right) S) r _ e) (located (n + nodes_in d.right) S a)
     where
-      here : (get_elem? (operands names n d.right) r ≡ some (entry node (Some a))) ⊎ ((q : ℕ) × (r ≡ length (operands names n d.right) + q) × (get_elem? (entry (node_of names n d.right) (Some d.left) ∷ []) q ≡ some (entry node (Some a)))) → Located n (d ∷ S) a r
+      here : (slice_get (operands names n d.right) r ≡ Some (entry node (Some a))) ⊎ ((q : ℕ) × (r ≡ length (operands names n d.right) + q) × (slice_get (entry (node_of names n d.right) (Some d.left) ∷ []) q ≡ Some (entry node (Some a)))) → Located n (d ∷ S) a r
       here (inl w) = absurd (unmarked n d.right r node a w)
       here (inr w) =
           let own = only_get (entry (node_of names n d.right) (Some d.left)) w.0 (entry node (Some a)) w.2 in
           let same : a ≡ d.left = some_some a d.left (ap (λ (x : Record). x.unknown) (sym own.1)) in
           record { before = []; equation = d; after = S; stands = refl; letter = same; at_root = omega (arith, w.1, own.0, operands_length names n d.right) }
 
-      go : (get_elem? (laid names n (Some d.left) d.right) r ≡ some (entry node (Some a))) ⊎ ((q : ℕ) × (r ≡ length (laid names n (Some d.left) d.right) + q) × (get_elem? (laid_all names (n + nodes_in d.right) S) q ≡ some (entry node (Some a))))
-          → ((r : ℕ) (node : Node) → get_elem? (laid_all names (n + nodes_in d.right) S) r ≡ some (entry node (Some a)) → Located (n + nodes_in d.right) S a r) → Located n (d ∷ S) a r
+      go : (slice_get (laid names n (Some d.left) d.right) r ≡ Some (entry node (Some a))) ⊎ ((q : ℕ) × (r ≡ length (laid names n (Some d.left) d.right) + q) × (slice_get (laid_all names (n + nodes_in d.right) S) q ≡ Some (entry node (Some a))))
+          → ((r : ℕ) (node : Node) → slice_get (laid_all names (n + nodes_in d.right) S) r ≡ Some (entry node (Some a)) → Located (n + nodes_in d.right) S a r) → Located n (d ∷ S) a r
       go (inl w) more = here (split_get (operands names n d.right) (entry (node_of names n d.right) (Some d.left) ∷ []) r _ w)
       go (inr w) more =
           let l = more w.0 node w.2 in

@@ -1,7 +1,6 @@
 -- The layout of a solvable system represents it.
 use Rattle.std.proofs.Common.{◌≡◌, ℕ, ◌+◌, cond, List, [], ◌∷◌, ◌++◌, length, Some, None, Option, sym, refl, ap, ◌∙◌, subst, inl, inr, append_assoc, arith, length-append, eq-eqb, ne_eqb}
-use mathlib.Core.Option.{some}
-use lib.ListN.{get_elem?}
+use Rattle.std.specs.Prelude.{slice_get}
 use Rattle.systems.specs.Solving.{Solvable}
 use Rattle.systems.specs.Trees as Trees
 use Rattle.systems.specs.Trees.{Tree, Equation, System, UnknownIn, UnknownOf, EquationOf}
@@ -28,8 +27,8 @@ module _ (roots : ℕ → ℕ) (rs : List Record) where
     offset : length pre ≡ n
     split : rs ≡ pre ++ (laid names n of t ++ post)
 
-  own_is : (n : ℕ) (of : Option ℕ) (t : Tree) → Within n of t → get_elem? rs (root_at n t) ≡ some (entry (node_of names n t) of)
-  own_is n of t w = ap (λ l. get_elem? l (root_at n t)) w.split ∙ own_at names w.pre w.post n of t w.offset
+  own_is : (n : ℕ) (of : Option ℕ) (t : Tree) → Within n of t → slice_get rs (root_at n t) ≡ Some (entry (node_of names n t) of)
+  own_is n of t w = ap (λ l. slice_get l (root_at n t)) w.split ∙ own_at names w.pre w.post n of t w.offset
 
   own : (n : ℕ) (of : Option ℕ) (t : Tree) → Within n of t → NodeAt rs (root_at n t) (node_of names n t)
   own n of t w = (of, own_is n of t w)

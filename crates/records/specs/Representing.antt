@@ -1,7 +1,5 @@
 -- What it is for records to represent a system.
-use Rattle.std.specs.Prelude.{◌≡◌, ℕ, ◌<◌, List, Some, Option}
-use Rattle.std.proofs.Math.Option.{some}
-use Rattle.std.proofs.Math.ListN.{get_elem?}
+use Rattle.std.specs.Prelude.{◌≡◌, ℕ, ◌<◌, List, Some, Option, slice_get}
 use Rattle.systems.specs.Trees.{Tree, number, unknown, input, sum, difference, product, bracket, Equation, System, EquationOf, UnknownOf}
 use Rattle.records.specs.declared.record.Node.{Node}
 use Rattle.records.specs.declared.record.Node.TheVariants.{Number, Unknown, Input, Sum, Difference, Product, Bracket}
@@ -10,11 +8,11 @@ use Rattle.records.specs.Layout.{entry}
 
 -- record i has this node
 abbrev pub NodeAt : List Record → ℕ → Node → Type 0
-NodeAt rs i node = (of : Option ℕ) × (get_elem? rs i ≡ some (entry node of))
+NodeAt rs i node = (of : Option ℕ) × (slice_get rs i ≡ Some (entry node of))
 
 -- record r is the right side of the unknown a
 abbrev pub RootOf : List Record → ℕ → ℕ → Type 0
-RootOf rs a r = (node : Node) × (get_elem? rs r ≡ some (entry node (Some a)))
+RootOf rs a r = (node : Node) × (slice_get rs r ≡ Some (entry node (Some a)))
 
 -- record i stands for the tree: operands stand before their operator, and an unknown is told by the record of its right side
 abbrev pub StandsFor : List Record → ℕ → Tree → Type 0
