@@ -24,8 +24,10 @@ impl Divisor {
         if f < 2 || f > 0xffff_ffff {
             return None;
         }
-        let degree = 63 - f.leading_zeros();
-        Some(Divisor { f, degree })
+        Some(Divisor {
+            f,
+            degree: f.ilog2(),
+        })
     }
 
     // How many codes there are below 2 ^ degree.
@@ -35,7 +37,8 @@ impl Divisor {
         1u64 << self.degree
     }
 
-    // x where it is below the size, else 0.
+    // x where it is below the size, else 0. (The rings above have the like of it for every ring; one function for both would be a public
+    // one of this crate, with a promise of its own, for one line.)
     fn clipped(&self, x: u64) -> u64
         ensures { result ≡ operand self.now.degree x }
     {
@@ -63,6 +66,7 @@ impl Divisor {
         let mut left = self.clipped(a);
         let mut power = self.clipped(b);
         let mut sum = 0;
+        // a number is halved until nothing is left: there is no index here, and no iterator over bits
         while left > 0 {
             if left % 2 == 1 {
                 sum ^= power;

@@ -4,10 +4,8 @@ use std::test::Fail;
 
 // The size of the ring that is made, or the number and the place of the refusal.
 fn made<R: Ring>(ring: Result<R, RingFault>) -> Result<u64, (u8, usize)> {
-    match ring {
-        Ok(ring) => Ok(ring.size()),
-        Err(fault) => Err((fault.number(), fault.place())),
-    }
+    let ring = ring.map_err(|fault| (fault.number(), fault.place()))?;
+    Ok(ring.size())
 }
 
 #[test]

@@ -1,5 +1,6 @@
 -- The faults of rings, by number and place.
-use Rattle.std.specs.Prelude.{ℕ, ◌+◌, min}
+use Rattle.std.specs.Prelude.{ℕ, ◌+◌, List, ◌++◌, codes, min}
+use Rattle.std.specs.Fmt.{decimal}
 use Rattle.rings.specs.declared.fault.RingFault.{RingFault}
 use Rattle.rings.specs.declared.fault.RingFault.TheVariants.{Modulus, Polynomial, TooLarge}
 
@@ -20,3 +21,7 @@ abbrev pub raised : RingFault → RingFault
 raised (Modulus d) = Modulus (min (d + 1) 255)
 raised (Polynomial d) = Polynomial (min (d + 1) 255)
 raised (TooLarge d) = TooLarge (min (d + 1) 255)
+
+-- how a fault of this number and place is printed, here and in the layers above: both in decimal digits
+abbrev pub fault_text : ℕ → ℕ → List ℕ
+fault_text number place = codes "fault " ++ decimal number ++ codes " at " ++ decimal place

@@ -17,6 +17,7 @@ pub struct Dual<R> {
 
 impl<R: Ring> Dual<R> {
     // The size of the ring below where the dual ring is in order, else 0.
+    #[tactic(auto, using(crate::specs::Lemmas::Duals::side_fits, crate::specs::Lemmas::Duals::side_large))]
     fn side(&self) -> u64
         ensures value { result ≡ side (R.meaning self.now.below) }
         ensures bound { result ≤ 2 ^ 31 }
@@ -26,6 +27,7 @@ impl<R: Ring> Dual<R> {
     }
 
     // The codes a and b, where x is the code of a + bε.
+    #[tactic(auto, using(crate::specs::Lemmas::Duals::code_dual, crate::specs::Lemmas::Duals::code_none, crate::specs::Lemmas::Duals::side_positive))]
     fn parts(&self, x: u64) -> (u64, u64)
         ensures first { result.0 ≡ code (dual (R.meaning self.now.below)) x % size_of (R.meaning self.now.below) }
         ensures second { result.1 ≡ code (dual (R.meaning self.now.below)) x / size_of (R.meaning self.now.below) }
@@ -39,6 +41,7 @@ impl<R: Ring> Dual<R> {
     }
 
     // The code of a + bε.
+    #[tactic(auto, using(crate::specs::Lemmas::Duals::joined_is))]
     fn joined(&self, a: u64, b: u64) -> u64
         ensures { result ≡ if_in_order (dual_order (R.meaning self.now.below)) (join (size_of (R.meaning self.now.below)) (code (R.meaning self.now.below) a) (code (R.meaning self.now.below) b)) }
     {
@@ -52,38 +55,40 @@ impl<R: Ring> Ring for Dual<R> {
 
     ghost lawful = { λ ring. dual_lawful (R.meaning ring.below) (R.lawful ring.below) };
 
+    #[tactic(auto, using(crate::specs::Lemmas::Duals::order_large, crate::specs::Lemmas::Duals::order_small, crate::specs::Lemmas::Duals::order_below))]
     fn order(&self) -> Result<(), RingFault> {
-        match self.below.order() {
-            Ok(()) => {
-                if self.below.size() > MOST {
-                    return Err(RingFault::TooLarge { depth: 0 });
-                }
-                Ok(())
-            }
-            Err(fault) => Err(fault.raised()),
+        self.below.order().map_err(RingFault::raised)?;
+        if self.below.size() > MOST {
+            return Err(RingFault::TooLarge { depth: 0 });
         }
+        Ok(())
     }
 
+    #[tactic(auto, using(crate::specs::Lemmas::Duals::side_squared))]
     fn size(&self) -> u64 {
         let s = self.side();
         s * s
     }
 
+    #[tactic(auto, using(crate::specs::Lemmas::Duals::dual_one))]
     fn one(&self) -> u64 {
         self.joined(self.below.one(), 0)
     }
 
+    #[tactic(auto, using(crate::specs::Lemmas::Duals::dual_sum))]
     fn add(&self, x: u64, y: u64) -> u64 {
         let (a, b) = self.parts(x);
         let (c, d) = self.parts(y);
         self.joined(self.below.add(a, c), self.below.add(b, d))
     }
 
+    #[tactic(auto, using(crate::specs::Lemmas::Duals::dual_opposite))]
     fn neg(&self, x: u64) -> u64 {
         let (a, b) = self.parts(x);
         self.joined(self.below.neg(a), self.below.neg(b))
     }
 
+    #[tactic(auto, using(crate::specs::Lemmas::Duals::dual_product))]
     fn mul(&self, x: u64, y: u64) -> u64 {
         let (a, b) = self.parts(x);
         let (c, d) = self.parts(y);

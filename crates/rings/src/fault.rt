@@ -1,6 +1,9 @@
 // Why a ring cannot be made, or is not in order.
-ghost use Rattle.rings.specs.Faults.{number_of, place_of, raised};
-ghost use Rattle.std.specs.Prelude.{◌≡◌};
+ghost use Rattle.rings.specs.Faults.{fault_text, number_of, place_of, raised};
+ghost use Rattle.std.specs.Prelude.{◌≡◌, Some};
+
+use std::error::Error;
+use std::fmt;
 
 // The depth says how many rings lie above the one at fault.
 #[derive(Clone, Copy, PartialEq, Eq, Debug)]
@@ -55,3 +58,16 @@ impl RingFault {
         }
     }
 }
+
+// A fault is printed as its number and its place.
+impl fmt::Display for RingFault {
+    ghost output = { λ fault. Some (fault_text (number_of fault) (place_of fault)) };
+
+    fn fmt<W: fmt::Write>(&self, f: &mut fmt::Formatter<W>) -> fmt::Result {
+        let number = self.number();
+        let place = self.place();
+        write!(f, "fault {number} at {place}")
+    }
+}
+
+impl Error for RingFault {}

@@ -28,6 +28,7 @@ impl Residues {
     }
 }
 
+#[tactic(auto, unfolding(crate::specs::Modular::residues, crate::specs::Model::code, crate::specs::Model::opposite, crate::specs::Model::product, crate::specs::Model::size_of, crate::specs::Model::sum, crate::specs::Model::one_of))]
 impl Ring for Residues {
     ghost meaning = { λ ring. residues ring.modulus };
 

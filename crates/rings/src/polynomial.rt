@@ -17,13 +17,12 @@ impl BinaryPolynomials {
     pub fn new(f: u64) -> Result<BinaryPolynomials, RingFault>
         ensures { MakesPolynomials f (through (λ ring. polynomials ring.divisor.f ring.divisor.degree) result) }
     {
-        match Divisor::new(f) {
-            Some(divisor) => Ok(BinaryPolynomials { divisor }),
-            None => Err(RingFault::Polynomial { depth: 0 }),
-        }
+        let divisor = Divisor::new(f).ok_or(RingFault::Polynomial { depth: 0 })?;
+        Ok(BinaryPolynomials { divisor })
     }
 }
 
+#[tactic(auto, unfolding(crate::specs::Polynomials::polynomials, crate::specs::Model::code, crate::specs::Model::opposite, crate::specs::Model::product, crate::specs::Model::size_of, crate::specs::Model::sum, crate::specs::Model::one_of))]
 impl Ring for BinaryPolynomials {
     ghost meaning = { λ ring. polynomials ring.divisor.f ring.divisor.degree };
 

@@ -4,3 +4,4 @@ pub mod Filled
 pub mod Admission
 pub mod Sums
 pub mod TreeRows
+pub mod Folds

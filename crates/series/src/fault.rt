@@ -1,9 +1,13 @@
 // Why a table is refused.
-ghost use Rattle.series.specs.Refusals.{admitted, number_of, place_of};
-ghost use Rattle.std.specs.Prelude.{◌≡◌};
+ghost use Rattle.rings.specs.Faults.{fault_text};
+ghost use Rattle.series.specs.Refusals.{number_of, place_of};
+ghost use Rattle.series.specs.declared.fault.TableFault.TheVariants.{Memory, Ring};
+ghost use Rattle.std.specs.Prelude.{◌≡◌, Some};
 
-use super::MOST_TERMS;
-use rings::{Ring, RingFault};
+use rings::RingFault;
+use std::alloc::AllocError;
+use std::error::Error;
+use std::fmt;
 
 #[derive(Clone, Copy, PartialEq, Eq, Debug)]
 pub enum TableFault {
@@ -41,18 +45,32 @@ impl TableFault {
     }
 }
 
-// Whether there is a table of this length over the ring with q, or else the fault that decides.
-pub fn admit<R: Ring>(ring: &R, q: u64, length: usize) -> Result<(), TableFault>
-    ensures { result ≡ admitted (R.meaning ring.now) q length }
-{
-    if let Err(fault) = ring.order() {
-        return Err(TableFault::Ring(fault));
+// A fault of the ring is handed on whole.
+impl From<RingFault> for TableFault {
+    ghost from_gives = { λ fault given. given ≡ Ring fault };
+
+    fn from(fault: RingFault) -> TableFault {
+        Self::Ring(fault)
     }
-    if q >= ring.size() {
-        return Err(TableFault::Base);
-    }
-    if length < 1 || length > MOST_TERMS {
-        return Err(TableFault::Length);
-    }
-    Ok(())
 }
+
+impl From<AllocError> for TableFault {
+    ghost from_gives = { λ _ given. given ≡ Memory };
+
+    fn from(_refused: AllocError) -> TableFault {
+        Self::Memory
+    }
+}
+
+// A fault is printed as its number and its place.
+impl fmt::Display for TableFault {
+    ghost output = { λ fault. Some (fault_text (number_of fault) (place_of fault)) };
+
+    fn fmt<W: fmt::Write>(&self, f: &mut fmt::Formatter<W>) -> fmt::Result {
+        let number = self.number();
+        let place = self.place();
+        write!(f, "fault {number} at {place}")
+    }
+}
+
+impl Error for TableFault {}

@@ -6,16 +6,13 @@ ghost use Rattle.series.specs.Weights.{rows_before};
 
 mod fault;
 mod products;
+mod tabulation;
 mod trees;
 mod weighing;
 
-pub use fault::{TableFault, admit};
+pub use fault::TableFault;
 pub use products::product_term;
-pub use trees::binary_trees;
-pub use weighing::weights;
-
-// The most terms that a table has.
-const MOST_TERMS: usize = 64;
+pub use tabulation::Tabulation;
 
 // How many weights stand in the rows before row n of a table.
 fn rows_before(n: usize) -> usize

@@ -3,7 +3,8 @@ ghost use Rattle.series.specs.Series.{weighted};
 ghost use Rattle.series.specs.Terms.{Enough, GivesProduct, GivesTerm, listed, standing};
 ghost use Rattle.std.specs.Prelude.{◌≡◌};
 
-use super::{MOST_TERMS, rows_before};
+use super::rows_before;
+use super::tabulation::MOST_TERMS;
 use rings::Ring;
 
 // Term n of the product of two series, n below 64, under weights that stand row after row; none where a term or a weight is
@@ -32,11 +33,12 @@ pub(crate) fn summed<R: Ring>(ring: &R, weights: &[u64], a: &[u64], b: &[u64], n
     requires { Enough weights.now a.now b.now n }
     ensures { result ≡ weighted (R.meaning ring.now) (standing weights.now) (listed a.now) (listed b.now) n }
 {
-    let first = rows_before(n);
-    let mut sum = 0;
-    for k in 0..n + 1 {
-        let weighed = ring.mul(weights[first + k], a[k]);
-        sum = ring.add(sum, ring.mul(weighed, b[n - k]));
-    }
-    sum
+    let row = &weights[rows_before(n)..];
+    row.iter()
+        .zip(&a[..n + 1])
+        .zip(b[..n + 1].iter().rev())
+        .fold(
+            0,
+            |sum, ((weight, a), b)| ring.add(sum, ring.mul(ring.mul(*weight, *a), *b)),
+        )
 }

@@ -3,47 +3,43 @@ ghost use Rattle.std.specs.Prelude.{◌≡◌, ◌+◌, ◌<◌, ◌≤◌, vec_
 ghost use Rattle.series.specs.Refusals.{Attempt};
 ghost use Rattle.series.specs.Weights.{OneTable, Tabulates, rows_before};
 
-use super::{TableFault, admit, rows_before};
+use super::{TableFault, Tabulation, rows_before};
 use rings::Ring;
 use std::alloc::Global;
 
-// The weights for the indices below a length from 1 to 64, row after row, W(0, 0) first.
-pub fn weights<R: Ring>(
-    heap: Global,
-    ring: &R,
-    q: u64,
-    length: usize,
-) -> Result<Vec<u64>, TableFault>
-    ensures answer { Attempt (R.meaning ring.now) q length (λ cells. Tabulates (R.meaning ring.now) q length cells.items) result }
-    ensures table { OneTable (R.meaning ring.now) q }
-{
-    admit(ring, q, length)?;
-    let Ok(mut cells) = Vec::with_capacity(heap, rows_before(length)) else {
-        return Err(TableFault::Memory);
-    };
-    for n in 0..length {
-        push_row(ring, q, n, &mut cells);
+impl<R: Ring> Tabulation<R> {
+    // The weights for the indices below the length, row after row, W(0, 0) first.
+    #[tactic(auto, using(crate::proofs::Admission::admits, crate::proofs::Admission::decides, crate::proofs::Admission::for_memory, crate::proofs::Places::rows_mono))]
+    pub fn weights(&self, heap: Global) -> Result<Vec<u64>, TableFault>
+        ensures answer { Attempt (R.meaning self.now.ring) self.now.q self.now.length (λ cells. Tabulates (R.meaning self.now.ring) self.now.q self.now.length cells.items) result }
+        ensures table { OneTable (R.meaning self.now.ring) self.now.q }
+    {
+        self.admit()?;
+        let mut cells = Vec::with_capacity(heap, rows_before(self.length))?;
+        for n in 0..self.length {
+            self.push_row(n, &mut cells);
+        }
+        Ok(cells)
     }
-    Ok(cells)
-}
 
-// Row n, behind the rows before it.
-fn push_row<R: Ring>(ring: &R, q: u64, n: usize, cells: &mut Vec<u64>)
-    requires small { n < 64 }
-    requires rows { Tabulates (R.meaning ring.now) q n cells.old.items }
-    requires room { rows_before (n + 1) ≤ vec_capacity cells.old }
-    ensures rows { Tabulates (R.meaning ring.now) q (n + 1) cells.new.items }
-    ensures capacity { vec_capacity cells.new ≡ vec_capacity cells.old }
-{
-    let above = cells.len() - n;
-    let mut power = ring.one();
-    for k in 0..n + 1 {
-        let weight = if k == 0 || k == n {
-            ring.one()
-        } else {
-            ring.add(cells[above + k - 1], ring.mul(power, cells[above + k]))
-        };
-        cells.push_reserved(weight);
-        power = ring.mul(q, power);
+    // Row n, behind the rows before it. (It is pushed onto the vector that holds the row above, so no iterator over that can be held.)
+    fn push_row(&self, n: usize, cells: &mut Vec<u64>)
+        requires small { n < 64 }
+        requires rows { Tabulates (R.meaning self.now.ring) self.now.q n cells.old.items }
+        requires room { rows_before (n + 1) ≤ vec_capacity cells.old }
+        ensures rows { Tabulates (R.meaning self.now.ring) self.now.q (n + 1) cells.new.items }
+        ensures capacity { vec_capacity cells.new ≡ vec_capacity cells.old }
+    {
+        let above = cells.len() - n;
+        let mut power = self.ring.one();
+        for k in 0..n + 1 {
+            let weight = if k == 0 || k == n {
+                self.ring.one()
+            } else {
+                self.ring.add(cells[above + k - 1], self.ring.mul(power, cells[above + k]))
+            };
+            cells.push_reserved(weight);
+            power = self.ring.mul(self.q, power);
+        }
     }
 }

@@ -1,5 +1,6 @@
 // Two rings: which fault decides, and the first parts of dual numbers.
 use rings::{Dual, Residues, Ring, RingFault};
+use series::Tabulation;
 use std::test::Fail;
 use systems::{both_in_order, first_part, tabulate_trees};
 
@@ -49,9 +50,18 @@ fn first_parts(rt: HostRuntime) -> Result<(), Fail> {
 #[test]
 fn carried_rows(rt: HostRuntime) -> Result<(), Fail> {
     let below = Residues::new(10)?;
-    let ring = Dual { below };
-    let mut row = tabulate_trees(rt.alloc(), &ring, 11, 64)?;
-    let expected = tabulate_trees(rt.alloc(), &below, 1, 64)?;
+    let over_duals = Tabulation {
+        ring: Dual { below },
+        q: 11,
+        length: 64,
+    };
+    let over_below = Tabulation {
+        ring: below,
+        q: 1,
+        length: 64,
+    };
+    let mut row = tabulate_trees(rt.alloc(), &over_duals)?;
+    let expected = tabulate_trees(rt.alloc(), &over_below)?;
     for term in row.iter_mut() {
         *term = first_part(&below, *term);
     }

@@ -1,27 +1,28 @@
 // The rows that are worked out are the rows that are proved, and each q has its product.
 use rings::{BinaryPolynomials, Dual, Residues, Ring, RingFault};
-use series::TableFault;
+use series::{TableFault, Tabulation};
 use std::test::Fail;
 use systems::{Example, ProductKind, tabulate_trees};
 
 #[test]
 fn examples(rt: HostRuntime) -> Result<(), Fail> {
     let ring = Residues::new(1000)?;
-    let polynomials = BinaryPolynomials::new(7)?;
-    let catalan = tabulate_trees(rt.alloc(), &ring, 0, 8)?;
-    assert_eq!(rt; catalan.as_slice(), Example::Catalan.terms().as_slice());
-    let factorials = tabulate_trees(rt.alloc(), &ring, 1, 8)?;
-    assert_eq!(rt;
-        factorials.as_slice(),
-        Example::Factorials.terms().as_slice()
-    );
-    let at_two = tabulate_trees(rt.alloc(), &ring, 2, 8)?;
-    assert_eq!(rt; at_two.as_slice(), Example::AtTwo.terms().as_slice());
-    let over = tabulate_trees(rt.alloc(), &polynomials, 2, 8)?;
-    assert_eq!(rt;
-        over.as_slice(),
-        Example::OverPolynomials.terms().as_slice()
-    );
+    let length = 8;
+    for (q, example) in [
+        (0, Example::Catalan),
+        (1, Example::Factorials),
+        (2, Example::AtTwo),
+    ] {
+        let row = tabulate_trees(rt.alloc(), &Tabulation { ring, q, length })?;
+        assert_eq!(rt; row.as_slice(), example.terms().as_slice());
+    }
+    let over_polynomials = Tabulation {
+        ring: BinaryPolynomials::new(7)?,
+        q: 2,
+        length,
+    };
+    let row = tabulate_trees(rt.alloc(), &over_polynomials)?;
+    assert_eq!(rt; row.as_slice(), Example::OverPolynomials.terms().as_slice());
     Ok(())
 }
 
@@ -32,6 +33,18 @@ fn kinds(rt: HostRuntime) -> Result<(), Fail> {
     assert_eq!(rt; ProductKind::of(&ring, 1), Ok(ProductKind::Hurwitz));
     assert_eq!(rt; ProductKind::of(&ring, 2), Ok(ProductKind::Gauss));
     assert_eq!(rt; ProductKind::of(&ring, 3), Err(TableFault::Base));
+    Ok(())
+}
+
+#[test]
+fn printed_kinds(rt: HostRuntime) -> Result<(), Fail> {
+    for (kind, expected) in [
+        (ProductKind::Cauchy, "Cauchy"),
+        (ProductKind::Hurwitz, "Hurwitz"),
+        (ProductKind::Gauss, "Gauss"),
+    ] {
+        assert_eq!(rt; format!(in rt.alloc(); "{kind}")?.as_str(), expected);
+    }
     Ok(())
 }
 

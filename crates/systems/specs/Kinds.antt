@@ -1,5 +1,5 @@
 -- Which product of series goes with q.
-use Rattle.std.specs.Prelude.{ℕ, cond, Result, ◌==◌}
+use Rattle.std.specs.Prelude.{ℕ, cond, List, Result, codes, ◌==◌}
 use Rattle.rings.specs.Answers.{through}
 use Rattle.rings.specs.Model.{RingModel, one_of}
 use Rattle.series.specs.declared.fault.TableFault.{TableFault}
@@ -14,3 +14,9 @@ kind m q = cond (q == 0) Cauchy (cond (q == one_of m) Hurwitz Gauss)
 -- the kind, or the fault that refuses every table over the ring with q, whatever its length
 abbrev pub kind_of : RingModel → ℕ → Result ProductKind TableFault
 kind_of m q = through (λ _. kind m q) (admitted m q 1)
+
+-- the name that a product is printed by
+abbrev pub name_of : ProductKind → List ℕ
+name_of Cauchy = codes "Cauchy"
+name_of Hurwitz = codes "Hurwitz"
+name_of Gauss = codes "Gauss"

@@ -19,10 +19,10 @@ pub fn both_in_order<R: Ring, S: Ring>(first: &R, second: &S) -> Result<(), Ring
 // The code of a, where x is the code of a + bε over the ring below; 0 where that ring is not in order.
 // Where the dual numbers are in order this is a map that carries: taken of every coefficient of a table over the dual numbers, it
 // gives the table over the ring below, also of a rearranged system.
+#[tactic(auto, using(crate::proofs::FirstParts::no_part, crate::proofs::FirstParts::some_part))]
 pub fn first_part<R: Ring>(below: &R, x: u64) -> u64
     ensures answer { result ≡ first_part (R.meaning below.now) x }
     ensures tables { CarriesFirstParts (R.meaning below.now) }
 {
-    let size = below.size();
-    if size == 0 { 0 } else { x % size }
+    x.checked_rem(below.size()).unwrap_or(0)
 }

@@ -34,7 +34,7 @@ impl Example {
     }
 }
 
-// The rows, as the definitions have them.
+// The rows, as the definitions have them. (They stand by themselves so that what is proved of the examples is said at one return.)
 fn eight_terms(example: Example) -> [u64; 8]
     ensures { result ≡ answer example }
 {

@@ -1,11 +1,12 @@
 // The product of series that goes with q.
-ghost use Rattle.systems.specs.Kinds.{kind, kind_of};
+ghost use Rattle.systems.specs.Kinds.{kind, kind_of, name_of};
 ghost use Rattle.systems.specs.SeriesRing.{SeriesRings};
 ghost use Rattle.systems.specs.WeightLaws.{WeightLaws};
-ghost use Rattle.std.specs.Prelude.{◌≡◌};
+ghost use Rattle.std.specs.Prelude.{◌≡◌, Some};
 
 use rings::Ring;
-use series::{TableFault, admit};
+use series::{TableFault, Tabulation};
+use std::fmt;
 
 #[derive(Clone, Copy, PartialEq, Eq, Debug)]
 pub enum ProductKind {
@@ -26,8 +27,26 @@ impl ProductKind {
         ensures weights { WeightLaws (R.meaning ring.now) }
         ensures series { SeriesRings (R.meaning ring.now) }
     {
-        admit(ring, q, 1)?;
+        let table = Tabulation {
+            ring: *ring,
+            q,
+            length: 1,
+        };
+        table.admit()?;
         Ok(kind(ring, q))
+    }
+}
+
+// A product is printed by its name.
+impl fmt::Display for ProductKind {
+    ghost output = { λ kind. Some (name_of kind) };
+
+    fn fmt<W: fmt::Write>(&self, f: &mut fmt::Formatter<W>) -> fmt::Result {
+        f.write_str(match self {
+            ProductKind::Cauchy => "Cauchy",
+            ProductKind::Hurwitz => "Hurwitz",
+            ProductKind::Gauss => "Gauss",
+        })
     }
 }
 

@@ -6,10 +6,11 @@ use Rattle.systems.proofs.trees.tabulate_trees.Goals as goal
 
 pub returns : goal.returns
 returns g c =
-    let m = g.R.Ring.meaning c.args.ring.now in
-    let lawful = g.met.R.Ring.lawful c.args.ring.now in
+    let table = c.args.table.now in
+    let m = g.R.Ring.meaning table.ring in
+    let lawful = g.met.R.Ring.lawful table.ring in
     record {
-      row = attempted m c.args.q c.args.length _ _ (λ row tree. tree_row m c.args.q c.args.length (vec_items row) tree) c.binary_trees.result c.binary_trees.ensures;
+      row = attempted m table.q table.length _ _ (λ row tree. tree_row m table.q table.length (vec_items row) tree) c.binary_trees.result c.binary_trees.ensures;
       solution = one_solution m lawful;
       rearranged = same_solutions m lawful;
     }
