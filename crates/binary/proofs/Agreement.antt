@@ -1,6 +1,6 @@
 -- The product and the remainder that are worked out are those in words.
 use Rattle.std.proofs.Common.{◌≡◌, ℕ, sym, ◌∙◌, subst}
-use lib.Bits.{bit_xor}
+use Rattle.std.specs.Int.Bits.{bit_xor}
 use Rattle.binary.specs.Words.{IsProduct, HasDegree, IsRemainder}
 use Rattle.binary.specs.Codes.{times, remainder, product}
 use Rattle.binary.specs.Agreement.{OneRemainder, OneProductModulo, Agrees}

@@ -1,9 +1,9 @@
 -- The coefficients of `times` are the sums of products of coefficients, modulo 2.
 use Rattle.std.proofs.Common.{◌≡◌, ℕ, zero, suc, ◌+◌, ◌-◌, ◌*◌, ◌/◌, ◌%◌, ◌^◌, ◌<◌, sym, refl, ap, ◌∙◌, ap₂, add-zero, mod-lt, one-mul, zero-mul, div-one, mul-div_cancel, one-add, arith, lit<, shr-shr}
-use mathlib.Core.Path.{fun_ext}
-use native.Mathlib.Nat.{mul-mod_left, suc-sub-suc, sub-zero, zero-div}
-use lib.Arith.{bin_ind}
-use lib.Bits.{bit_xor, xor_shr, xor_mod}
+use Rattle.std.proofs.Math.Path.{fun_ext}
+use Rattle.std.proofs.Math.Nat.{mul-mod_left, suc-sub-suc, sub-zero, zero-div}
+use Rattle.std.proofs.Math.Arith.{bin_ind}
+use Rattle.std.specs.Int.Bits.{bit_xor, xor_shr, xor_mod}
 use Rattle.binary.specs.Words.{coefficient, sum_to, IsProduct}
 use Rattle.binary.specs.Codes.{times}
 use Rattle.binary.proofs.Times.{not_bit, times_zero, times_step}

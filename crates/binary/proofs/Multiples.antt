@@ -1,6 +1,6 @@
 -- To differ by a multiple of f: what sums, products and doubling keep of it.
 use Rattle.std.proofs.Common.{◌≡◌, ℕ, ◌*◌, sym, ap, ◌∙◌, ap₂}
-use lib.Bits.{bit_xor, xor_assoc, xor_self, xor_zero_r}
+use Rattle.std.specs.Int.Bits.{bit_xor, xor_assoc, xor_self, xor_zero_r}
 use Rattle.binary.specs.Codes.{times}
 use Rattle.binary.proofs.Times.{xor_double, interchange, times_zero, times_xor_l, times_double_l, times_comm, times_assoc}
 

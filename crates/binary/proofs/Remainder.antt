@@ -1,9 +1,8 @@
 -- The remainder modulo f of degree d: it exists, there is one, and the product of remainders obeys the laws of a commutative ring.
-use Rattle.std.proofs.Common.{◌≡◌, ℕ, zero, suc, ◌+◌, ◌*◌, ◌/◌, ◌%◌, ◌^◌, ◌<◌, ◌≤◌, Bool, true, false, cond, T, ltb, sym, refl, ap, ◌∙◌, subst, ap₂, le_of_eq, le_refl, not-suc-le-zero, lt_of_le_of_lt, mod-lt, zero-lt-suc, div-lt_iff_lt-mul, one-mul, pow-suc, div-add-mod', zero-add, zero-mul, not-le_of_lt, arith, lit<, ltb→lt, lt→ltb, nltb→le, pow_pos}
-use native.Mathlib.Nat.{div-eq_of_lt, div-eq_of_lt-le}
-use lib.Arith.{half_le, bin_ind, digits_lt, le→nltb}
-use lib.Bits.{bit_xor, xor_comm, xor_assoc, xor_zero_r, xor_shr, xor_shifted, xor_lt}
-use lib.Ieee.Bits.{is_true, is_false}
+use Rattle.std.proofs.Common.{◌≡◌, ℕ, zero, suc, ◌+◌, ◌*◌, ◌/◌, ◌%◌, ◌^◌, ◌<◌, ◌≤◌, Bool, true, false, cond, T, ltb, sym, refl, ap, ◌∙◌, subst, ap₂, le_of_eq, le_refl, not-suc-le-zero, lt_of_le_of_lt, mod-lt, zero-lt-suc, div-lt_iff_lt-mul, one-mul, pow-suc, div-add-mod', zero-add, zero-mul, not-le_of_lt, arith, lit<, ltb→lt, nltb→le, pow_pos, not, lt-ltb, le-ltb}
+use Rattle.std.proofs.Math.Nat.{div-eq_of_lt, div-eq_of_lt-le}
+use Rattle.std.proofs.Math.Arith.{half_le, bin_ind, digits_lt}
+use Rattle.std.specs.Int.Bits.{bit_xor, xor_comm, xor_assoc, xor_zero_r, xor_shr, xor_shifted, xor_lt}
 use Rattle.binary.specs.Words.{HasDegree}
 use Rattle.binary.specs.Codes.{times, reduce, remainder_bits, remainder, product}
 use Rattle.binary.proofs.Multiples.{Same, less, cancel, same_eq, same_sym, same_trans, same_xor, same_times_l, same_times_r, same_double}
@@ -80,7 +79,7 @@ pub reduce_is : (f d x : ℕ) → HasDegree f d → x < 2 ^ d * 2 → (reduce f 
 unfolding reduce
 reduce_is f d x (lo, hi) h = go (ltb x (2 ^ d)) (ltb→lt x (2 ^ d)) (nltb→le x (2 ^ d))
   where
-    go : (b : Bool) → (T b → x < 2 ^ d) → (T (mathlib.Core.Bool.not b) → 2 ^ d ≤ x) → (cond b x (bit_xor x f) < 2 ^ d) × Same f x (cond b x (bit_xor x f))
+    go : (b : Bool) → (T b → x < 2 ^ d) → (T (not b) → 2 ^ d ≤ x) → (cond b x (bit_xor x f) < 2 ^ d) × Same f x (cond b x (bit_xor x f))
     go true p q = (p tt, same_eq f refl)
     go false p q = (
       below (bit_xor x f) d (xor_shr x f d ∙ ap₂ bit_xor (top x d (q tt) h) (top f d lo hi)),
@@ -169,11 +168,11 @@ product_xor f d g a b c =
 
 pub reduce_below : (f d x : ℕ) → x < 2 ^ d → reduce f d x ≡ x
 unfolding reduce
-reduce_below f d x h = ap (λ (b : Bool). cond b x (bit_xor x f)) (is_true _ (lt→ltb x (2 ^ d) h))
+reduce_below f d x h = ap (λ (b : Bool). cond b x (bit_xor x f)) (lt-ltb x (2 ^ d) h)
 
 pub reduce_above : (f d x : ℕ) → 2 ^ d ≤ x → reduce f d x ≡ bit_xor x f
 unfolding reduce
-reduce_above f d x h = ap (λ (b : Bool). cond b x (bit_xor x f)) (is_false _ (le→nltb x (2 ^ d) h))
+reduce_above f d x h = ap (λ (b : Bool). cond b x (bit_xor x f)) (le-ltb x (2 ^ d) h)
 
 -- one turn of the loop
 pub turn : (f d : ℕ) → HasDegree f d → (whole sum left power : ℕ) → power < 2 ^ d → Same f whole (bit_xor sum (times left power))

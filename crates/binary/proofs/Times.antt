@@ -1,10 +1,10 @@
 -- The laws of `times`: commutative, associative, distributive over the exclusive or, one neutral. All by induction on the bits.
 use Rattle.std.proofs.Common.{◌≡◌, ℕ, zero, suc, ◌+◌, ◌*◌, ◌/◌, ◌%◌, ◌<◌, ◌≤◌, sym, refl, ap, ◌∙◌, ap₂, le_refl, le_of_suc-le-suc, not-suc-le-zero, add-zero, mod-lt, mul_assoc, one-mul, div-add-mod', zero-mul, mul-one, mul-div_cancel, lit<}
 use Prim.Native.Nat.{differ}
-use native.Mathlib.Nat.{mul-mod_left}
-use native.Mathlib.Decide.{le_ind}
-use lib.Arith.{half_le, bin_ind}
-use lib.Bits.{bit_xor, xor_step, xor_comm, xor_assoc, xor_zero_r, xor_self, xor_shr, xor_mod, xor_shifted}
+use Rattle.std.proofs.Math.Nat.{mul-mod_left}
+use Rattle.std.proofs.Math.Decide.{le_ind}
+use Rattle.std.proofs.Math.Arith.{half_le, bin_ind}
+use Rattle.std.specs.Int.Bits.{bit_xor, xor_step, xor_comm, xor_assoc, xor_zero_r, xor_self, xor_shr, xor_mod, xor_shifted}
 use Rattle.binary.specs.Codes.{times, times_bits}
 
 -- ---- exclusive or against doubling and against one bit

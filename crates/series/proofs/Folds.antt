@@ -1,12 +1,12 @@
 -- Sums that a fold makes over items, one element for each.
-use Rattle.std.proofs.Common.{◌≡◌, ℕ, zero, suc, ◌+◌, ◌<◌, ◌≤◌, List, [], ◌∷◌, ◌++◌, Option, Some, None, length, get_or, take, sym, refl, ap, ◌∙◌, ap₂, arith, rules}
+use Rattle.std.proofs.Common.{◌≡◌, ℕ, zero, suc, ◌<◌, ◌≤◌, List, [], ◌∷◌, Option, Some, None, length, get_or, take, sym, refl, ap, ◌∙◌, ap₂, arith, rules}
 use Rattle.std.specs.List.{fold}
 use Rattle.std.specs.Option.{option_map}
 use Rattle.std.proofs.Math.Seq.{take-suc}
 use Rattle.std.proofs.lemmas.List.{take_all}
 use Rattle.std.proofs.lemmas.List.Sums.{fold-append}
 use Rattle.rings.specs.Model.{RingModel, sum, product}
-use Rattle.series.proofs.Sums.{sum_of, sum_more}
+use Rattle.series.proofs.Sums.{sum_of}
 
 -- an item that gives a weight, a term and another gives their product
 pub times_three : {A : Type 0} (m : RingModel) (w a b : A → ℕ) (o : Option A) (i j k : ℕ) → option_map w o ≡ Some i → option_map a o ≡ Some j → option_map b o ≡ Some k

@@ -1,6 +1,6 @@
 -- Where the weights stand when they stand row after row.
 use Rattle.std.proofs.Common.{◌≡◌, ℕ, zero, suc, ◌+◌, ◌-◌, ◌*◌, ◌/◌, ◌<◌, ◌≤◌, refl, ap, add-mul, one-mul, mul-one, mul-add, arith}
-use native.Mathlib.Decide.{dec_le}
+use Rattle.std.proofs.Math.Decide.{dec_le}
 use Rattle.series.specs.Weights.{rows_before, place}
 
 grown : (n x : ℕ) → x ≡ n + 1 → x * (x + 1) / 2 ≡ n * x / 2 + x

@@ -1,6 +1,6 @@
 -- The weights keep their rule, and the rule leaves one table.
 use Rattle.std.proofs.Common.{◌≡◌, ℕ, zero, suc, ◌+◌, ◌-◌, ◌<◌, sym, refl, ap, ◌∙◌, ap₂, arith}
-use native.Mathlib.Nat.{sub_self}
+use Rattle.std.proofs.Math.Nat.{sub_self}
 use Rattle.rings.specs.Model.{RingModel, one_of, sum, product}
 use Rattle.series.specs.Weights.{power, IsWeights, gauss, weight, OneTable}
 

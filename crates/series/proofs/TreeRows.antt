@@ -1,6 +1,6 @@
 -- Rows that satisfy B = 1 + [B × B], term after term.
 use Rattle.std.proofs.Common.{◌≡◌, ℕ, zero, suc, ◌+◌, ◌<◌, ◌≤◌, List, [], ◌∷◌, ◌++◌, sym, refl, ap, ◌∙◌, subst, arith}
-use native.Mathlib.Decide.{dec_le}
+use Rattle.std.proofs.Math.Decide.{dec_le}
 use Rattle.std.proofs.lemmas.List.{get_or_append_left, get_or_push, length_push}
 use Rattle.rings.specs.Model.{RingModel, Lawful, in_order, code, size_of, one_of}
 use Rattle.rings.specs.Total.{Total}

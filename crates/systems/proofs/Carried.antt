@@ -1,6 +1,6 @@
 -- A map that carries the operations carries solutions to solutions, also of a rearranged system.
 use Rattle.std.proofs.Common.{◌≡◌, ℕ, ◌<◌, sym, refl, ap, ◌∙◌, ap₂, inl, inr, arith}
-use mathlib.Core.Path.{fun_ext}
+use Rattle.std.proofs.Math.Path.{fun_ext}
 use Rattle.rings.specs.Model.{RingModel, code}
 use Rattle.rings.specs.Total.{Total}
 use Rattle.series.specs.Series as Series

@@ -1,6 +1,6 @@
 -- To take first parts carries the operations of the dual numbers to those of the ring below.
 use Rattle.std.proofs.Common.{◌≡◌, ℕ, ◌%◌, ◌<◌, sym, refl, ap, ◌∙◌, ap₂, mod-lt, mod-eq_of_lt, arith, le-ltb, lt-ltb}
-use native.Mathlib.Nat.{zero-mod}
+use Rattle.std.proofs.Math.Nat.{zero-mod}
 use Rattle.rings.specs.Model.{RingModel, Lawful, in_order, code, size_of, one_of, sum, product}
 use Rattle.rings.specs.Duals.{dual, join}
 use Rattle.rings.specs.Lemmas.Total.{size_pos, one_below, sum_below, product_below, code_size, code_is, one_on, sum_on, product_on}

@@ -1,6 +1,6 @@
 -- Rearranged trees stand for the same series, and rearranged systems have the same solutions.
 use Rattle.std.proofs.Common.{◌≡◌, ℕ, sym, refl, ap, ◌∙◌, subst, ap₂, inl, inr}
-use mathlib.Core.Path.{fun_ext}
+use Rattle.std.proofs.Math.Path.{fun_ext}
 use Rattle.rings.specs.Model.{RingModel, code}
 use Rattle.rings.specs.Total.{Total}
 use Rattle.series.specs.Series as Series

@@ -1,6 +1,6 @@
 -- The theorems over every lawful ring.
 use Rattle.std.proofs.Common.{◌≡◌, ℕ, zero, suc, ◌<◌, sym, ap, ◌∙◌, subst, ap₂}
-use mathlib.Core.Path.{fun_ext}
+use Rattle.std.proofs.Math.Path.{fun_ext}
 use Rattle.rings.specs.Model.{RingModel, Lawful, in_order, code, size_of, one_of, sum, opposite, product}
 use Rattle.rings.specs.Total.{Total}
 use Rattle.rings.specs.Lemmas.Total.{total, code_is, code_size}

@@ -1,6 +1,6 @@
 -- Two families that satisfy a solvable system below N, for inputs that agree below N, agree below N.
 use Rattle.std.proofs.Common.{◌≡◌, ℕ, zero, suc, ◌<◌, ◌≤◌, [], ◌∷◌, ◌++◌, sym, refl, ◌∙◌, subst, inl, inr, append_assoc, le_refl, arith}
-use native.Mathlib.Decide.{dec_le}
+use Rattle.std.proofs.Math.Decide.{dec_le}
 use Rattle.rings.specs.Model.{RingModel}
 use Rattle.systems.specs.Families.{Family}
 use Rattle.systems.specs.Trees.{Equation, System, UnknownOf}

@@ -1,6 +1,6 @@
 -- The laws of the weights. Most are shown in coordinates, for the weight of i in i + j.
 use Rattle.std.proofs.Common.{◌≡◌, ℕ, zero, suc, ◌+◌, ◌-◌, ◌<◌, sym, refl, ap, ◌∙◌, ap₂, arith}
-use mathlib.Core.Path.{fun_ext}
+use Rattle.std.proofs.Math.Path.{fun_ext}
 use Rattle.rings.specs.Model.{RingModel, code, one_of, sum, product}
 use Rattle.rings.specs.Total.{Total}
 use Rattle.series.specs.Weights.{power, gauss, weight}

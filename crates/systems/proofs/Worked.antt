@@ -1,6 +1,6 @@
 -- The examples, worked out.
 use Rattle.std.proofs.Common.{◌≡◌, ℕ, zero, suc, ◌<◌, Bool, true, cond, ◌&&◌, eqb, leb, List, [], ◌∷◌, length, sym, refl, subst, inl, inr, arith}
-use native.Mathlib.Decide.{dec_le}
+use Rattle.std.proofs.Math.Decide.{dec_le}
 use Rattle.std.proofs.lemmas.Bool.{and_parts, both_ways, eq-eqb, eqb-true, leb-true}
 use Rattle.rings.specs.Model as Model
 use Rattle.rings.specs.Model.{RingModel}

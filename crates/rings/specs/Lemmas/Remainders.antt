@@ -1,9 +1,8 @@
 -- The residues modulo m keep the laws.
 use Rattle.std.specs.Prelude.{◌≡◌, ℕ, ◌+◌, ◌-◌, ◌*◌, ◌/◌, ◌%◌, ◌^◌, ◌<◌, ◌≤◌}
 use Rattle.std.proofs.Math.Path.{sym, ap}
-use Rattle.std.proofs.Common.{◌∙◌, mod-lt, add-mul}
+use Rattle.std.proofs.Common.{◌∙◌, mod-lt, add-mul, arith}
 use Rattle.std.proofs.Math.Nat.{mod-eq_of_lt, mod_self, mod-add-mod, add-mod-mod, mod-add-div, add-mul-mod_self_left, add_assoc, add_comm, mul_assoc, mul_comm, mul-add, one-mul, zero-add}
-use native.Mathlib.Omega.{arith}
 use Rattle.rings.specs.Model.{Laws}
 use Rattle.rings.specs.Modular.{residues}
 

@@ -1,5 +1,5 @@
 use Rattle.std.proofs.Common.{◌≡◌, ℕ, ◌*◌, ◌/◌, ◌%◌, ◌^◌, ◌<◌, ltb, sym, refl, ap, ◌∙◌, subst, ap₂, mod-lt, one-mul, zero-mul, arith, lit<, pow_pos}
-use lib.Bits.{bit_xor, xor_zero_r, xor_lt}
+use Rattle.std.specs.Int.Bits.{bit_xor, xor_zero_r, xor_lt}
 use Rattle.binary.specs.Words.{operand}
 use Rattle.binary.specs.Codes.{times}
 use Rattle.binary.proofs.Clips.{cut_below}

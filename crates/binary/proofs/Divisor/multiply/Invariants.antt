@@ -1,5 +1,5 @@
 use Rattle.std.proofs.Common.{◌^◌, ◌<◌}
-use lib.Bits.{bit_xor}
+use Rattle.std.specs.Int.Bits.{bit_xor}
 use Rattle.binary.specs.Codes.{times}
 use Rattle.binary.specs.Words.{operand}
 use Rattle.binary.proofs.Multiples.{Same}

@@ -1,5 +1,5 @@
 use Rattle.std.proofs.Common.{ℕ, suc, ◌+◌, ◌^◌, ◌<◌, ◌≤◌, pow-suc, arith, pow_mono}
-use native.Mathlib.Decide.{dec_le}
+use Rattle.std.proofs.Math.Decide.{dec_le}
 use Rattle.binary.proofs.Divisor.new.Goals as goal
 
 -- of two powers of two, the lower has the lower exponent

@@ -3,15 +3,7 @@ use Rattle.series.specs.Terms.{Enough}
 use Rattle.series.proofs.Sums.{weighted_times}
 use Rattle.series.proofs.products.product_term.Goals as goal
 
-pub returns : goal.returns
-returns g c =
-    let m = g.R.Ring.meaning c.args.ring.now in
-    let cells = c.args.weights.now in
-    let a = c.args.a.now in
-    let b = c.args.b.now in
-    let n = c.args.n in
-    let enough : Enough cells a b n = record { small = omega arith; first = omega arith; second = omega arith; weights = omega arith } in
-    record {
-      term = (enough, c.summed.ensures);
-      product = λ q N h t A B p r. c.summed.ensures ∙ weighted_times m q N cells a b n h t enough A B p r;
-    }
+pub returns-clause-product : goal.returns-clause-product
+returns-clause-product g c q N h t A B p r =
+    let enough : Enough c.args.weights.now c.args.a.now c.args.b.now c.args.n = record { small = omega arith; first = omega arith; second = omega arith; weights = omega arith } in
+    c.summed.ensures ∙ weighted_times _ q N _ _ _ _ h t enough A B p r

@@ -57,11 +57,3 @@ loop-n-preserved g c =
       subst (IsTreeRow m q (n + 1 + 1)) (sym c.push_reserved-in-loop-n.ensures.items) (tree_more m q (g.met.R.Ring.lawful c.args.self.now.ring) ok.on n row c.summed-term.result is tree),
       (let e = c.push_reserved-in-loop-n.ensures.capacity in let r = c.loop-n.invariant.1 in omega arith),
     )
-
-pub returns : goal.returns
-returns g c =
-    let m = g.R.Ring.meaning c.args.self.now.ring in
-    let made = c.in_ok-weights.ensures.answer in
-    let ok = admits m c.args.self.now.q c.args.self.now.length made.0 in
-    let all : c.loop-n.n + 1 ≡ c.args.self.now.length = omega arith in
-    (made.0, subst (λ (n : ℕ). IsTreeRow m c.args.self.now.q n (vec_items c.loop-n.row)) all c.loop-n.invariant.0)

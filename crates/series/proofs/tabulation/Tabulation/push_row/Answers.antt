@@ -1,27 +1,17 @@
-use Rattle.std.proofs.Common.{◌≡◌, ℕ, ◌+◌, ◌-◌, ◌<◌, ◌≤◌, length, get_or, vec_items, vec_len, sym, refl, ap, ◌∙◌, subst, ap₂, ⊎_elim, add-one, arith}
-use native.Mathlib.Decide.{dec_le}
+use Rattle.std.proofs.Common.{◌≡◌, ℕ, ◌-◌, ◌<◌, ◌≤◌, length, get_or, vec_items, vec_len, sym, ap, ◌∙◌, subst, ap₂, ⊎_elim, add-one, arith}
+use Rattle.std.proofs.Math.Decide.{dec_le}
 use Rattle.std.proofs.lemmas.List.{get_or_read}
 use Rattle.rings.specs.Model.{sum, product}
 use Rattle.series.specs.Weights.{power, place, weight, rows_before}
 use Rattle.series.proofs.Places.{row_above, place_below}
 use Rattle.series.proofs.Rule.{weight_rule}
-use Rattle.series.proofs.Filled.{Filled, filled_rows, filled_push, rows_filled}
+use Rattle.series.proofs.Filled.{Filled, filled_push}
 use Rattle.series.proofs.tabulation.Tabulation.push_row.Goals as goal
 use Rattle.series.proofs.tabulation.Tabulation.push_row.Goals.{then-k-n, else-k-n}
 
 -- row n stands behind a row as long as n
 above_fits : (n : ℕ) → n ≤ rows_before n
 above_fits n = elim (dec_le n 0) [ yes h ↦ omega arith | no h ↦ let p = row_above n (omega (arith, h)) in omega arith ]
-
-pub overflow_sub-above : goal.overflow_sub-above
-overflow_sub-above g c = let p = above_fits c.args.n in let e = c.requires.rows.count in let l = c.args.cells.now.ok.0 in let s = c.len.ensures in omega arith
-
-pub loop-k-init : goal.loop-k-init
-unfolding power
-loop-k-init g c =
-    let m = g.R.Ring.meaning c.args.self.now.ring in
-    let cells = c.args.cells.now in
-    (cells.ok.0 ∙ c.requires.rows.count ∙ omega arith, filled_rows m c.args.self.now.q c.args.n (vec_items cells) c.requires.rows, c.one-power.ensures, refl)
 
 pub loop-k-preserved : goal.loop-k-preserved
 unfolding power
@@ -54,13 +44,3 @@ loop-k-preserved g c =
       c.mul-power.ensures ∙ ap (product m q) c.loop-k.invariant.2 ∙ ap (power m q) (sym (add-one k)),
       c.push_reserved.ensures.capacity ∙ c.loop-k.invariant.3,
     )
-
-pub returns : goal.returns
-returns g c =
-    let m = g.R.Ring.meaning c.args.self.now.ring in
-    let cells = c.loop-k.cells in
-    let all : c.loop-k.k ≡ c.args.n + 1 = omega arith in
-    record {
-      rows = rows_filled m c.args.self.now.q c.args.n (vec_items cells) (sym cells.ok.0 ∙ c.loop-k.invariant.0 ∙ ap (place c.args.n) all) c.loop-k.invariant.1;
-      capacity = c.loop-k.invariant.3;
-    }
