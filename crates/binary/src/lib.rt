@@ -46,6 +46,7 @@ impl Divisor {
     }
 
     // x times the first power, reduced.
+    #[tactic(auto, using(crate::proofs::Remainder::reduce_above, crate::proofs::Remainder::reduce_below))]
     fn raised(&self, x: u64) -> u64
         requires { x < 2 ^ self.now.degree }
         ensures { result ≡ reduce self.now.f self.now.degree (x * 2) }

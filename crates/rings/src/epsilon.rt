@@ -4,10 +4,7 @@ ghost use Rattle.rings.specs.Duals.{dual, dual_order, join, side};
 ghost use Rattle.rings.specs.Model.{code, if_in_order, size_of};
 ghost use Rattle.rings.specs.Lemmas.Duals.{dual_lawful};
 
-use super::{Ring, RingFault, clipped};
-
-// The largest size of the ring below.
-const MOST: u64 = 1 << 31;
+use super::{MOST, Ring, RingFault, clipped};
 
 // The dual numbers over the ring below. They can always be made; order() says whether they are in order.
 #[derive(Clone, Copy)]

@@ -1,5 +1,6 @@
 // Why a ring cannot be made, or is not in order.
 ghost use Rattle.rings.specs.Faults.{fault_text, number_of, place_of, raised};
+ghost use Rattle.std.specs.Fmt.{DisplaysOnOk};
 ghost use Rattle.std.specs.Prelude.{◌≡◌, Some};
 
 use std::error::Error;
@@ -59,14 +60,22 @@ impl RingFault {
     }
 }
 
-// A fault is printed as its number and its place.
+// Writes a fault of any layer: its number and its place.
+pub fn write_fault<W: fmt::Write>(
+    f: &mut fmt::Formatter<W>,
+    number: u8,
+    place: usize,
+) -> fmt::Result
+    ensures { DisplaysOnOk W.write_str_gives f.old result (Some (fault_text number place)) f.new }
+{
+    write!(f, "fault {number} at {place}")
+}
+
 impl fmt::Display for RingFault {
     ghost output = { λ fault. Some (fault_text (number_of fault) (place_of fault)) };
 
     fn fmt<W: fmt::Write>(&self, f: &mut fmt::Formatter<W>) -> fmt::Result {
-        let number = self.number();
-        let place = self.place();
-        write!(f, "fault {number} at {place}")
+        write_fault(f, self.number(), self.place())
     }
 }
 

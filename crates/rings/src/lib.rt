@@ -10,9 +10,12 @@ mod modular;
 mod polynomial;
 
 pub use epsilon::Dual;
-pub use fault::RingFault;
+pub use fault::{RingFault, write_fault};
 pub use modular::Residues;
 pub use polynomial::BinaryPolynomials;
+
+// The largest modulus of a residue ring, and the largest size of the ring below a dual one.
+const MOST: u64 = 1 << 31;
 
 // A ring is a plain value. Asking it alters nothing. An operand that is not below the size counts as 0, and a ring that is
 // not in order answers 0 for its size, its one and every operation.

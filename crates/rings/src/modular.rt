@@ -4,10 +4,7 @@ ghost use Rattle.rings.specs.Answers.{through};
 ghost use Rattle.rings.specs.Modular.{MakesResidues, residues};
 ghost use Rattle.rings.specs.Lemmas.Remainders.{residues_laws};
 
-use super::{Ring, RingFault, clipped};
-
-// The largest modulus.
-const MOST: u64 = 1 << 31;
+use super::{MOST, Ring, RingFault, clipped};
 
 #[derive(Clone, Copy)]
 pub struct Residues {

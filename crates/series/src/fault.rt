@@ -4,7 +4,7 @@ ghost use Rattle.series.specs.Refusals.{number_of, place_of};
 ghost use Rattle.series.specs.declared.fault.TableFault.TheVariants.{Memory, Ring};
 ghost use Rattle.std.specs.Prelude.{◌≡◌, Some};
 
-use rings::RingFault;
+use rings::{RingFault, write_fault};
 use std::alloc::AllocError;
 use std::error::Error;
 use std::fmt;
@@ -62,14 +62,11 @@ impl From<AllocError> for TableFault {
     }
 }
 
-// A fault is printed as its number and its place.
 impl fmt::Display for TableFault {
     ghost output = { λ fault. Some (fault_text (number_of fault) (place_of fault)) };
 
     fn fmt<W: fmt::Write>(&self, f: &mut fmt::Formatter<W>) -> fmt::Result {
-        let number = self.number();
-        let place = self.place();
-        write!(f, "fault {number} at {place}")
+        write_fault(f, self.number(), self.place())
     }
 }
 

@@ -1,8 +1,5 @@
 use Rattle.systems.proofs.Theorems.{transfers}
 use Rattle.systems.proofs.comparing.both_in_order.Goals as goal
 
-pub returns-in_err-order-clause-tables : goal.returns-in_err-order-clause-tables
-returns-in_err-order-clause-tables g c = transfers _ _ (g.met.R.Ring.lawful c.args.first.now) (g.met.S.Ring.lawful c.args.second.now)
-
 pub returns-clause-tables : goal.returns-clause-tables
 returns-clause-tables g c = transfers _ _ (g.met.R.Ring.lawful c.args.first.now) (g.met.S.Ring.lawful c.args.second.now)
