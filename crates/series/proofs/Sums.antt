@@ -11,10 +11,6 @@ unfoldable pub sum_of : RingModel → ℕ → (ℕ → ℕ) → ℕ
 sum_of m zero g = 0
 sum_of m (suc k) g = sum m (sum_of m k g) (g k)
 
-pub sum_more : (m : RingModel) (k : ℕ) (g : ℕ → ℕ) → sum_of m (k + 1) g ≡ sum m (sum_of m k g) (g k)
-unfolding sum_of
-sum_more m k g = rw add-one
-
 sum_suc : (m : RingModel) → Total m → (n : ℕ) (g : ℕ → ℕ) → ((k : ℕ) → code m (g k) ≡ g k) → sum_of m (suc n) g ≡ sum_to m n g
 unfolding sum_of sum_to
 sum_suc m t zero g h = t.zero_sum (g 0) ∙ h 0
