@@ -6,7 +6,8 @@ ghost use Rattle.std.specs.Prelude.{◌≡◌, Some};
 use std::error::Error;
 use std::fmt;
 
-// The depth says how many rings lie above the one at fault.
+// The depth says how many rings lie above the one at fault. It stands in each case, since the list of refusals gives each case its number and
+// its values.
 #[derive(Clone, Copy, PartialEq, Eq, Debug)]
 pub enum RingFault {
     // 1: the modulus of a residue ring is not from 2 to 2^31
@@ -18,7 +19,7 @@ pub enum RingFault {
 }
 
 impl RingFault {
-    // The number of the refusal.
+    // The number of the refusal. (A case that has values has no number of its own in the language, so it is told by a match.)
     pub fn number(&self) -> u8
         ensures { result ≡ number_of self.now }
     {

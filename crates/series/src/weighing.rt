@@ -22,7 +22,7 @@ impl<R: Ring> Tabulation<R> {
         Ok(cells)
     }
 
-    // Row n, behind the rows before it. (It is pushed onto the vector that holds the row above, so no iterator over that can be held.)
+    // Row n, behind the rows before it. (It is pushed onto the vector that holds the row above, so no iterator over that row can be held.)
     #[tactic(auto, using(crate::proofs::Filled::filled_rows, crate::proofs::Filled::rows_filled, crate::proofs::Places::row_above, crate::proofs::Places::place_below), unfolding(crate::specs::Weights::power))]
     fn push_row(&self, n: usize, cells: &mut Vec<u64>)
         requires small { n < 64 }
