@@ -1,6 +1,5 @@
 -- What the machine answers of a text, and that it is what examining the text answers.
-use Rattle.std.proofs.Common.{◌≡◌, ℕ, ◌≤◌, Bool, true, false, cond, T, ltb, List, [], ◌∷◌, length, Ok, Err, Result, sym, refl, ap, ◌∙◌, subst, ltb-false, ltb-true}
-use mathlib.Core.Option.{Option, none, some}
+use Rattle.std.proofs.Common.{◌≡◌, ℕ, ◌≤◌, Bool, true, false, cond, T, ltb, List, [], ◌∷◌, length, Ok, Err, Result, sym, refl, ap, ◌∙◌, subst, ltb-false, ltb-true, Some, None, Option}
 use Rattle.tokens.proofs.Listing.{tokens_from, tokens_listed}
 use Rattle.reader.specs.declared.fault.Rule.TheVariants.{TooLong, NotAllowed, NoEquation}
 use Rattle.reader.specs.declared.fault.TextFault.{TextFault}
@@ -17,7 +16,7 @@ use Rattle.reader.proofs.Faults.{Scan, stop, end, scan, Scanned, scanned, not_no
 
 abbrev answer_end : List ℕ → State → Result (ℕ × ℕ) TextFault
 answer_end bs (at []) = Err (fault NotAllowed (length bs))
-answer_end bs (at (q ∷ qs)) = elim (unknown (q ∷ qs) (tokens_from 0 bs)) [ none ↦ Ok (nodes (system_of (q ∷ qs)), product_signs bs) | some p ↦ Err (fault NoEquation p) ]
+answer_end bs (at (q ∷ qs)) = elim (unknown (q ∷ qs) (tokens_from 0 bs)) [ None ↦ Ok (nodes (system_of (q ∷ qs)), product_signs bs) | Some p ↦ Err (fault NoEquation p) ]
 answer_end bs (after_left es a) = Err (fault NotAllowed (length bs))
 answer_end bs (need b p m) = Err (fault NotAllowed (length bs))
 answer_end bs (have b p t) = Err (fault NotAllowed (length bs))
@@ -32,31 +31,31 @@ answer bs = cond (ltb 4096 (length bs)) (Err (fault TooLong 4096)) (answer_scan 
 
 -- a state in which whole lines are read
 abbrev whole? : Option State → Bool
-whole? none = false
-whole? (some (at [])) = false
-whole? (some (at (q ∷ qs))) = true
-whole? (some (after_left es a)) = false
-whole? (some (need b p m)) = false
-whole? (some (have b p t)) = false
+whole? None = false
+whole? (Some (at [])) = false
+whole? (Some (at (q ∷ qs))) = true
+whole? (Some (after_left es a)) = false
+whole? (Some (need b p m)) = false
+whole? (Some (have b p t)) = false
 
 module _ (bs : List ℕ) (short : length bs ≤ 4096) where
-  unended : (st : State) → Clean (tokens_from 0 bs) → run start (kinds (tokens_from 0 bs)) ≡ some st → whole? (some st) ≡ false → Faulty bs (fault NotAllowed (length bs))
+  unended : (st : State) → Clean (tokens_from 0 bs) → run start (kinds (tokens_from 0 bs)) ≡ Some st → whole? (Some st) ≡ false → Faulty bs (fault NotAllowed (length bs))
   unended st c e n =
       of_end short (tokens_from 0 bs) (tokens_listed 0 bs) c
       (λ S h. let w = (accepts (kinds (tokens_from 0 bs))).0 (S, h) in subst T (ap whole? (sym w.2 ∙ e) ∙ n) tt)
 
-  whole : (q : Line) (qs : List Line) → Clean (tokens_from 0 bs) → run start (kinds (tokens_from 0 bs)) ≡ some (at (q ∷ qs)) → (o : Option ℕ) → Looked (q ∷ qs) (tokens_from 0 bs) o
-      → Examined bs (elim o [ none ↦ Ok (nodes (system_of (q ∷ qs)), product_signs bs) | some p ↦ Err (fault NoEquation p) ])
+  whole : (q : Line) (qs : List Line) → Clean (tokens_from 0 bs) → run start (kinds (tokens_from 0 bs)) ≡ Some (at (q ∷ qs)) → (o : Option ℕ) → Looked (q ∷ qs) (tokens_from 0 bs) o
+      → Examined bs (elim o [ None ↦ Ok (nodes (system_of (q ∷ qs)), product_signs bs) | Some p ↦ Err (fault NoEquation p) ])
   whole q qs c e o h = go o h
     where
       is_system : IsSystem (kinds (tokens_from 0 bs)) (system_of (q ∷ qs))
       is_system = subst (λ ts. IsSystem ts (system_of (q ∷ qs))) (sound (kinds (tokens_from 0 bs)) _ e) (system_is q qs)
 
-      go : (o : Option ℕ) → Looked (q ∷ qs) (tokens_from 0 bs) o → Examined bs (elim o [ none ↦ Ok (nodes (system_of (q ∷ qs)), product_signs bs) | some p ↦ Err (fault NoEquation p) ])
-      go none k = (system_of (q ∷ qs), record { short = short; tokens = tokens_from 0 bs; listed = tokens_listed 0 bs; clean = c; system = is_system; known = k }, refl)
-      go (some p) k = of_name short (tokens_from 0 bs) (tokens_listed 0 bs) c (system_of (q ∷ qs)) is_system p k
+      go : (o : Option ℕ) → Looked (q ∷ qs) (tokens_from 0 bs) o → Examined bs (elim o [ None ↦ Ok (nodes (system_of (q ∷ qs)), product_signs bs) | Some p ↦ Err (fault NoEquation p) ])
+      go None k = (system_of (q ∷ qs), record { short = short; tokens = tokens_from 0 bs; listed = tokens_listed 0 bs; clean = c; system = is_system; known = k }, refl)
+      go (Some p) k = of_name short (tokens_from 0 bs) (tokens_listed 0 bs) c (system_of (q ∷ qs)) is_system p k
 
-  ended : (st : State) → Clean (tokens_from 0 bs) → run start (kinds (tokens_from 0 bs)) ≡ some st → Examined bs (answer_end bs st)
+  ended : (st : State) → Clean (tokens_from 0 bs) → run start (kinds (tokens_from 0 bs)) ≡ Some st → Examined bs (answer_end bs st)
   ended (at []) c e = unended (at []) c e refl
   ended (at (q ∷ qs)) c e = whole q qs c e (unknown (q ∷ qs) (tokens_from 0 bs)) (all_looked (q ∷ qs) (tokens_from 0 bs))
   ended (after_left es a) c e = unended (after_left es a) c e refl

@@ -1,6 +1,6 @@
 -- The machine takes exactly the systems, and stops exactly where no continuation is a system.
-use Rattle.std.proofs.Common.{◌≡◌, ◌↔◌, List, [], ◌∷◌, ◌++◌, sym, refl, ap, ◌∙◌, subst}
-use mathlib.Core.Option.{Option, none, some, none-ne-some}
+use Rattle.std.proofs.lemmas.Option.{none-some}
+use Rattle.std.proofs.Common.{◌≡◌, ◌↔◌, List, [], ◌∷◌, ◌++◌, sym, refl, ap, ◌∙◌, subst, Some, None, Option}
 use Rattle.tokens.specs.Kinds.{Kind, number, capital, equals, semicolon, closes}
 use Rattle.reader.specs.Grammar.{IsSystem, Viable}
 use Rattle.systems.specs.Trees.{System}
@@ -21,17 +21,17 @@ ending (need b p m) = number (48 ∷ []) ∷ shut b
 ending (have b p t) = shut b
 
 abbrev pub Ended : Option State → Type 0
-Ended o = (q : Line) × (qs : List Line) × (o ≡ some (at (q ∷ qs)))
+Ended o = (q : Line) × (qs : List Line) × (o ≡ Some (at (q ∷ qs)))
 
-snoc_ended : (es : List Line) (e : Line) → Ended (some (at (es ++ (e ∷ []))))
+snoc_ended : (es : List Line) (e : Line) → Ended (Some (at (es ++ (e ∷ []))))
 snoc_ended [] e = (e, [], refl)
 snoc_ended (q ∷ es) e = (q, es ++ (e ∷ []), refl)
 
-shut_ends : (b : Place) (p : Pre) (t : Term) → Ended (run (some (have b p t)) (shut b))
+shut_ends : (b : Place) (p : Pre) (t : Term) → Ended (run (Some (have b p t)) (shut b))
 shut_ends (side es c) p t = snoc_ended es _
 shut_ends (within g b q m) p t = subst (λ o. Ended (run o (shut b))) (sym (close_same g b q m (with_term p t))) (shut_ends b q (with_factor m _))
 
-ends : (st : State) → Ended (run (some st) (ending st))
+ends : (st : State) → Ended (run (Some st) (ending st))
 ends (at es) = snoc_ended es _
 ends (after_left es c) = snoc_ended es _
 ends (need b p m) = shut_ends b p _
@@ -45,11 +45,11 @@ accepts ts = (
 )
 
 abbrev pub Going : Option State → Type 0
-Going o = (st : State) × (o ≡ some st)
+Going o = (st : State) × (o ≡ Some st)
 
 going : (o : Option State) (ts : List Kind) → Ended (run o ts) → Going o
-going none ts e = absurd (none-ne-some _ (sym (run_none ts) ∙ e.2))
-going (some st) ts e = (st, refl)
+going None ts e = absurd (none-some _ (sym (run_none ts) ∙ e.2))
+going (Some st) ts e = (st, refl)
 
 -- it still goes exactly where the tokens can be continued to a system
 pub viable : (ts : List Kind) → Viable ts ↔ Going (run start ts)
@@ -59,11 +59,11 @@ viable ts = (
 )
 
 equations : Option State → List Line
-equations none = []
-equations (some (at es)) = es
-equations (some (after_left es c)) = []
-equations (some (need b p m)) = []
-equations (some (have b p t)) = []
+equations None = []
+equations (Some (at es)) = es
+equations (Some (after_left es c)) = []
+equations (Some (need b p m)) = []
+equations (Some (have b p t)) = []
 
 -- a list of tokens is that of one list of lines at most
 pub one_lines : (qs rs : List Line) → tokens_of qs ≡ tokens_of rs → qs ≡ rs

@@ -1,10 +1,10 @@
 -- The machine's tests are the rules, and its first failed test is the text's fault.
-use Rattle.std.proofs.Common.{◌≡◌, ℕ, ◌+◌, ◌≤◌, Bool, true, false, cond, not, ◌&&◌, ◌||◌, T, eqb, ltb, leb, ◌⊎◌, ◌↔◌, List, [], ◌∷◌, ◌++◌, length, sym, refl, ap, ◌∙◌, subst, inl, inr, append_assoc, append-nil, arith, le→leb, eqb→eq, ltb→lt, lt→ltb, leb→le, T_not, eq-eqb}
-use mathlib.Core.Option.{Option, none, some}
+use Rattle.std.proofs.Common.{◌≡◌, ℕ, ◌+◌, ◌≤◌, Bool, true, false, cond, not, ◌&&◌, ◌||◌, T, eqb, ltb, leb, ◌⊎◌, ◌↔◌, List, [], ◌∷◌, ◌++◌, length, sym, refl, ap, ◌∙◌, subst, inl, inr, append_assoc, append-nil, arith, le→leb, eqb→eq, ltb→lt, lt→ltb, leb→le, T_not, eq-eqb, Some, None, Option}
 use mathlib.Core.List.{nil≢cons, head-eq_of_cons-eq, tail-eq_of_cons-eq}
-use lib.Dec.{not_T}
+use Rattle.std.proofs.Math.Dec.{not_T}
+use Rattle.std.proofs.lemmas.List.{map-append}
 use Rattle.systems.specs.Trees.{System, UnknownOf}
-use Rattle.tokens.specs.Kinds.{Kind, number, capital, small, equals, semicolon, plus, minus, star, opens, closes, stray}
+use Rattle.tokens.specs.Kinds.{Kind, capital, equals}
 use Rattle.tokens.specs.Tokens.{Token}
 use Rattle.reader.specs.declared.fault.Rule.{Rule}
 use Rattle.reader.specs.declared.fault.Rule.TheVariants.{TooLong, NoToken, LongNumber, NotAllowed, TooDeep, Repeated, TooEarly, NoEquation, TooManyNodes}
@@ -30,37 +30,19 @@ eq_T : (a b : ℕ) → a ≡ b → T (eqb a b)
 eq_T a b e = subst T (sym (eq-eqb a b e)) tt
 
 abbrev pub is_none : Option State → Bool
-is_none none = true
-is_none (some st) = false
+is_none None = true
+is_none (Some st) = false
 
 abbrev pub name_test : Kind → (ℕ → Bool) → Bool
-name_test (number ds) f = false
 name_test (capital c) f = f c
-name_test (small c) f = false
-name_test equals f = false
-name_test semicolon f = false
-name_test plus f = false
-name_test minus f = false
-name_test star f = false
-name_test (opens g) f = false
-name_test (closes g) f = false
-name_test (stray b) f = false
+name_test _ f = false
 
 named : (t : Kind) (f : ℕ → Bool) → T (name_test t f) ↔ ((c : ℕ) × (t ≡ capital c) × T (f c))
 named t f = (go t, λ h. subst (λ (u : Kind). T (name_test u f)) (sym h.1) h.2)
   where
     go : (u : Kind) → T (name_test u f) → (c : ℕ) × (u ≡ capital c) × T (f c)
-    go (number ds) h = absurd h
     go (capital c) h = (c, refl, h)
-    go (small c) h = absurd h
-    go equals h = absurd h
-    go semicolon h = absurd h
-    go plus h = absurd h
-    go minus h = absurd h
-    go star h = absurd h
-    go (opens g) h = absurd h
-    go (closes g) h = absurd h
-    go (stray b) h = absurd h
+    go _ h = absurd h
 
 -- whether the token t breaks a rule in this state
 abbrev pub test : State → Kind → Rule → Bool
@@ -103,12 +85,12 @@ module _ (before : List Kind) (P : System → List Kind → Type 0) where
         subst (λ (S : System). P S w.part) (sym l.2) h.1,
       )
 
-start_read : (before : List Kind) (st : State) → run start before ≡ some st → (a : ℕ) → T (at_start st (λ es. has es a)) ↔ ((S : System) × AreEquations before S × UnknownOf a S)
+start_read : (before : List Kind) (st : State) → run start before ≡ Some st → (a : ℕ) → T (at_start st (λ es. has es a)) ↔ ((S : System) × AreEquations before S × UnknownOf a S)
 start_read before st e a = (go st (sound before st e), back)
   where
     over : Option State → Bool
-    over none = false
-    over (some to) = at_start to (λ es. has es a)
+    over None = false
+    over (Some to) = at_start to (λ es. has es a)
 
     go : (to : State) → read to ≡ before → T (at_start to (λ es. has es a)) → (S : System) × AreEquations before S × UnknownOf a S
     go (at es) same h = (system_of es, subst (λ (l : List Kind). AreEquations l (system_of es)) same (lines_are es), (has_unknown es a).0 h)
@@ -121,7 +103,7 @@ start_read before st e a = (go st (sound before st e), back)
         let l = lines_from h.1 in
         subst (λ (o : Option State). T (over o)) (sym (complete l.0) ∙ ap (run start) l.1 ∙ e) ((has_unknown l.0 a).1 (subst (UnknownOf a) (sym l.2) h.2))
 
-module _ (before : List Kind) (st : State) (e : run start before ≡ some st) where
+module _ (before : List Kind) (st : State) (e : run start before ≡ Some st) where
   -- a test of lines and of the part of a right side, and the fact that it decides
   sides : (f : List Line → List Kind → Bool) (P : System → List Kind → Type 0) → ((es : List Line) (r : List Kind) → T (f es r) ↔ P (system_of es) r)
       → T (over_right st f) ↔ ((w : Within before) × P w.whole w.part)
@@ -140,8 +122,8 @@ module _ (before : List Kind) (st : State) (e : run start before ≡ some st) wh
   moves t n = go (step st t) refl
     where
       go : (o : Option State) → step st t ≡ o → T (is_none o)
-      go none h = tt
-      go (some to) h = n ((viable (before ++ (t ∷ []))).1 (to, goes t ∙ h))
+      go None h = tt
+      go (Some to) h = n ((viable (before ++ (t ∷ []))).1 (to, goes t ∙ h))
 
   deep : T (over_right st (λ es r. leb 16 (groups r))) ↔ ((w : Within before) × (16 ≤ groups w.part))
   deep = sides _ (λ S r. 16 ≤ groups r) (λ es r. (leb→le 16 _, le→leb 16 _))
@@ -177,8 +159,8 @@ module _ (before : List Kind) (st : State) (e : run start before ≡ some st) wh
 
 -- the first rule of a list whose test fails
 abbrev pub first : (Rule → Bool) → List Rule → Option Rule
-first f [] = none
-first f (k ∷ ks) = cond (f k) (some k) (first f ks)
+first f [] = None
+first f (k ∷ ks) = cond (f k) (Some k) (first f ks)
 
 abbrev pub Among : Rule → List Rule → Type 0
 Among j [] = ⊥
@@ -189,17 +171,17 @@ Ascending [] = Unit {0}
 Ascending (k ∷ ks) = ((j : Rule) → Among j ks → number_of k ≤ number_of j) × Ascending ks
 
 abbrev pub Least : (Rule → Bool) → List Rule → Option Rule → Type 0
-Least f ks none = (j : Rule) → Among j ks → T (f j) → ⊥
-Least f ks (some k) = T (f k) × ((j : Rule) → Among j ks → T (f j) → number_of k ≤ number_of j)
+Least f ks None = (j : Rule) → Among j ks → T (f j) → ⊥
+Least f ks (Some k) = T (f k) × ((j : Rule) → Among j ks → T (f j) → number_of k ≤ number_of j)
 
 pub least : (f : Rule → Bool) (ks : List Rule) → Ascending ks → Least f ks (first f ks)
 least f [] a = λ j m h. m
 least f (k ∷ ks) a = go (f k) refl (first f ks) (least f ks a.1)
   where
-    go : (x : Bool) → f k ≡ x → (o : Option Rule) → Least f ks o → Least f (k ∷ ks) (cond x (some k) o)
+    go : (x : Bool) → f k ≡ x → (o : Option Rule) → Least f ks o → Least f (k ∷ ks) (cond x (Some k) o)
     go true e o h = (subst T (sym e) tt, λ j m t. elim m [ inl same ↦ omega (arith, ap number_of same) | inr more ↦ a.0 j more ])
-    go false e none h = λ j m t. elim m [ inl same ↦ subst T (ap f same ∙ e) t | inr more ↦ h j more t ]
-    go false e (some i) h = (h.0, λ j m t. elim m [ inl same ↦ absurd (subst T (ap f same ∙ e) t) | inr more ↦ h.1 j more t ])
+    go false e None h = λ j m t. elim m [ inl same ↦ subst T (ap f same ∙ e) t | inr more ↦ h j more t ]
+    go false e (Some i) h = (h.0, λ j m t. elim m [ inl same ↦ absurd (subst T (ap f same ∙ e) t) | inr more ↦ h.1 j more t ])
 
 abbrev pub rules : List Rule
 rules = TooLong ∷ NoToken ∷ LongNumber ∷ NotAllowed ∷ TooDeep ∷ Repeated ∷ TooEarly ∷ NoEquation ∷ TooManyNodes ∷ []
@@ -242,12 +224,12 @@ pub data Scan : Type 0 where
   end : State → Scan
 
 abbrev pub stepped : State → Kind → State
-stepped st t = elim (step st t) [ none ↦ st | some to ↦ to ]
+stepped st t = elim (step st t) [ None ↦ st | Some to ↦ to ]
 
 -- the machine over the tokens of a text, with every rule
 abbrev pub scan : State → List Token → Scan
 scan st [] = end st
-scan st (t ∷ ts) = elim (first (test st t.kind) rules) [ none ↦ scan (stepped st t.kind) ts | some k ↦ stop k t.place ]
+scan st (t ∷ ts) = elim (first (test st t.kind) rules) [ None ↦ scan (stepped st t.kind) ts | Some k ↦ stop k t.place ]
 
 -- the tokens before the last one, or the last one
 snoc_split : (before : List Token) (t : Token) (b : List Token) (u : Token) (a : List Token) → before ++ (t ∷ []) ≡ b ++ (u ∷ a) → ((b ≡ before) × (u ≡ t)) ⊎ ((a' : List Token) × (before ≡ b ++ (u ∷ a')))
@@ -272,10 +254,6 @@ clean_more before t c n b u a e k h =
       | inr more ↦ c b u more.0 more.1 k h
     ]
 
-kinds-++ : (xs ys : List Token) → kinds (xs ++ ys) ≡ kinds xs ++ kinds ys
-kinds-++ [] ys = refl
-kinds-++ (x ∷ xs) ys = ap (λ l. x.kind ∷ l) (kinds-++ xs ys)
-
 -- tokens with kinds of their own before a kind
 pub record KindsSplit (ts : List Token) (before_kinds : List Kind) (k : Kind) : Type 0 where
   pub before : List Token
@@ -293,25 +271,25 @@ kinds_split (t ∷ ts) (j ∷ before) k after e =
     let s = kinds_split ts before k after (tail-eq_of_cons-eq e) in
     record { before = t ∷ s.before; at = s.at; after = s.after; split = ap (λ l. t ∷ l) s.split; before_is = (λ i. head-eq_of_cons-eq e i ∷ s.before_is i); at_is = s.at_is }
 
-pub steps : (o : Option State) (st : State) → (T (is_none o) → ⊥) → o ≡ some (elim o [ none ↦ st | some to ↦ to ])
-steps none st n = absurd (n tt)
-steps (some to) st n = refl
+pub steps : (o : Option State) (st : State) → (T (is_none o) → ⊥) → o ≡ Some (elim o [ None ↦ st | Some to ↦ to ])
+steps None st n = absurd (n tt)
+steps (Some to) st n = refl
 
 abbrev pub Scanned : List Token → Scan → Type 0
 Scanned all (stop k p) = First all k p
-Scanned all (end st) = Clean all × (run start (kinds all) ≡ some st)
+Scanned all (end st) = Clean all × (run start (kinds all) ≡ Some st)
 
-pub scanned : (ts before : List Token) (st : State) → run start (kinds before) ≡ some st → Clean before → Scanned (before ++ ts) (scan st ts)
-scanned [] before st e c = subst (λ (l : List Token). Clean l × (run start (kinds l) ≡ some st)) (sym (append-nil before)) (c, e)
+pub scanned : (ts before : List Token) (st : State) → run start (kinds before) ≡ Some st → Clean before → Scanned (before ++ ts) (scan st ts)
+scanned [] before st e c = subst (λ (l : List Token). Clean l × (run start (kinds l) ≡ Some st)) (sym (append-nil before)) (c, e)
 scanned (t ∷ ts) before st e c = go (scanned ts (before ++ (t ∷ [])) (stepped st t.kind)) (first (test st t.kind) rules) (least (test st t.kind) rules ascending)
   where
-    go : (run start (kinds (before ++ (t ∷ []))) ≡ some (stepped st t.kind) → Clean (before ++ (t ∷ [])) → Scanned (before ++ (t ∷ []) ++ ts) (scan (stepped st t.kind) ts)) → (o : Option Rule) → Least (test st t.kind) rules o → Scanned (before ++ (t ∷ ts)) (elim o [ none ↦ scan (stepped st t.kind) ts | some k ↦ stop k t.place ])
-    go more none h =
+    go : (run start (kinds (before ++ (t ∷ []))) ≡ Some (stepped st t.kind) → Clean (before ++ (t ∷ [])) → Scanned (before ++ (t ∷ []) ++ ts) (scan (stepped st t.kind) ts)) → (o : Option Rule) → Least (test st t.kind) rules o → Scanned (before ++ (t ∷ ts)) (elim o [ None ↦ scan (stepped st t.kind) ts | Some k ↦ stop k t.place ])
+    go more None h =
         subst (λ (l : List Token). Scanned l (scan (stepped st t.kind) ts)) (append_assoc before (t ∷ []) ts)
         (more
-        (ap (run start) (kinds-++ before (t ∷ [])) ∙ goes (kinds before) st e t.kind ∙ steps (step st t.kind) st (h NotAllowed (among_all NotAllowed)))
+        (ap (run start) (map-append (λ (t : Token). t.kind) before (t ∷ [])) ∙ goes (kinds before) st e t.kind ∙ steps (step st t.kind) st (h NotAllowed (among_all NotAllowed)))
         (clean_more before t c (λ k b. h k (among_all k) ((exact (kinds before) st e k t.kind).1 b))))
-    go more (some k) h = record {
+    go more (Some k) h = record {
       before = before;
       at = t;
       after = ts;
@@ -326,12 +304,12 @@ scanned (t ∷ ts) before st e c = go (scanned ts (before ++ (t ∷ [])) (steppe
 
 -- the place of the first
 abbrev pub unknown : List Line → List Token → Option ℕ
-unknown es [] = none
-unknown es (t ∷ ts) = cond (name_test t.kind (λ a. not (has es a))) (some t.place) (unknown es ts)
+unknown es [] = None
+unknown es (t ∷ ts) = cond (name_test t.kind (λ a. not (has es a))) (Some t.place) (unknown es ts)
 
 abbrev pub Looked : List Line → List Token → Option ℕ → Type 0
-Looked es ts none = Known (system_of es) ts
-Looked es ts (some p) = FirstUnknown (system_of es) ts p
+Looked es ts None = Known (system_of es) ts
+Looked es ts (Some p) = FirstUnknown (system_of es) ts p
 
 known_more : (S : System) (before : List Token) (t : Token) → Known S before → ((a : ℕ) → t.kind ≡ capital a → UnknownOf a S) → Known S (before ++ (t ∷ []))
 known_more S before t k n b u a e c same =
@@ -348,7 +326,7 @@ looked es (t ∷ ts) before k = go (looked es ts (before ++ (t ∷ []))) (name_t
     sure a true e n = (has_unknown es a).0 (subst T (sym e) tt)
     sure a false e n = absurd (n tt)
 
-    go : (Known (system_of es) (before ++ (t ∷ [])) → Looked es (before ++ (t ∷ []) ++ ts) (unknown es ts)) → (x : Bool) → name_test t.kind (λ a. not (has es a)) ≡ x → Looked es (before ++ (t ∷ ts)) (cond x (some t.place) (unknown es ts))
+    go : (Known (system_of es) (before ++ (t ∷ [])) → Looked es (before ++ (t ∷ []) ++ ts) (unknown es ts)) → (x : Bool) → name_test t.kind (λ a. not (has es a)) ≡ x → Looked es (before ++ (t ∷ ts)) (cond x (Some t.place) (unknown es ts))
     go more true e =
         let n = (named t.kind (λ a. not (has es a))).0 (subst T (sym e) tt) in
         record { before = before; at = t; after = ts; split = refl; known = k; name = n.0; capital_at = n.1; without = (not_unknown es n.0).0 n.2; placed = refl }

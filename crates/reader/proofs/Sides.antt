@@ -1,10 +1,10 @@
 -- Where a state stands: the whole equations before, and the part of a right side that is read.
-use Rattle.std.proofs.Common.{◌≡◌, ℕ, ◌+◌, Bool, true, false, cond, T, List, [], ◌∷◌, ◌++◌, sym, refl, ap, ◌∙◌, subst, append_assoc, arith}
-use mathlib.Core.Option.{Option, none, some}
-use mathlib.Core.List.{append_cancel_left, tail-eq_of_cons-eq}
+use Rattle.std.proofs.Common.{◌≡◌, ℕ, ◌+◌, Bool, true, false, cond, T, List, [], ◌∷◌, ◌++◌, sym, refl, ap, ◌∙◌, subst, append_assoc, arith, Some, None, Option}
+use Rattle.std.proofs.lemmas.List.{append_cancel_left}
+use mathlib.Core.List.{tail-eq_of_cons-eq}
 use Rattle.tokens.specs.declared.token.Group.{Group}
 use Rattle.tokens.specs.declared.token.Group.TheVariants.{Round as round, Square as square}
-use Rattle.tokens.specs.Kinds.{Kind, number, capital, small, equals, semicolon, plus, minus, star, opens, closes, stray}
+use Rattle.tokens.specs.Kinds.{Kind, number, capital, small, equals, semicolon, plus, minus, star, opens, closes}
 use Rattle.reader.proofs.Derivations.{Factor, f_number, f_capital, f_small, f_group, Term, t_one, t_times, Sum, s_one, s_plus, s_minus, Line, factor_tokens, term_tokens, sum_tokens, tokens_of}
 use Rattle.reader.specs.Sorts.{count, is_semicolon}
 use Rattle.reader.proofs.Derivations.{Side}
@@ -101,11 +101,11 @@ right_read (have b p t) f h = (side_have b p t, h)
 
 -- a run inside a right side stays there until a semicolon
 abbrev Inside : List Line → ℕ → Option State → Type 0
-Inside es d none = Unit {0}
-Inside es d (some (at fs)) = ⊥
-Inside es d (some (after_left fs c)) = ⊥
-Inside es d (some (need b p m)) = (home b ≡ es) × (left_of b ≡ d)
-Inside es d (some (have b p t)) = (home b ≡ es) × (left_of b ≡ d)
+Inside es d None = Unit {0}
+Inside es d (Some (at fs)) = ⊥
+Inside es d (Some (after_left fs c)) = ⊥
+Inside es d (Some (need b p m)) = (home b ≡ es) × (left_of b ≡ d)
+Inside es d (Some (have b p t)) = (home b ≡ es) × (left_of b ≡ d)
 
 shut_stays : (es : List Line) (d : ℕ) (g : Group) (b : Place) (s : Sum) → (home b ≡ es) × (left_of b ≡ d) → Inside es d (close g b s)
 shut_stays es d g (side fs c) s h = tt
@@ -115,31 +115,20 @@ shut_stays es d square (within round b p m) s h = tt
 shut_stays es d square (within square b p m) s h = h
 
 stays : (es : List Line) (d : ℕ) (o : Option State) (t : Kind) → is_semicolon t ≡ false → Inside es d o → Inside es d (next o t)
-stays es d none t n h = tt
-stays es d (some (at fs)) t n h = absurd h
-stays es d (some (after_left fs c)) t n h = absurd h
-stays es d (some (need b p m)) (number ds) n h = h
-stays es d (some (need b p m)) (capital c) n h = h
-stays es d (some (need b p m)) (small c) n h = h
-stays es d (some (need b p m)) equals n h = tt
-stays es d (some (need b p m)) semicolon n h = tt
-stays es d (some (need b p m)) plus n h = tt
-stays es d (some (need b p m)) minus n h = tt
-stays es d (some (need b p m)) star n h = tt
-stays es d (some (need b p m)) (opens g) n h = h
-stays es d (some (need b p m)) (closes g) n h = tt
-stays es d (some (need b p m)) (stray x) n h = tt
-stays es d (some (have b p t)) (number ds) n h = tt
-stays es d (some (have b p t)) (capital c) n h = tt
-stays es d (some (have b p t)) (small c) n h = tt
-stays es d (some (have b p t)) equals n h = tt
-stays es d (some (have b p t)) semicolon n h = absurd (subst T n tt)
-stays es d (some (have b p t)) plus n h = h
-stays es d (some (have b p t)) minus n h = h
-stays es d (some (have b p t)) star n h = h
-stays es d (some (have b p t)) (opens g) n h = tt
-stays es d (some (have b p t)) (closes g) n h = shut_stays es d g b _ h
-stays es d (some (have b p t)) (stray x) n h = tt
+stays es d None t n h = tt
+stays es d (Some (at fs)) t n h = absurd h
+stays es d (Some (after_left fs c)) t n h = absurd h
+stays es d (Some (need b p m)) (number ds) n h = h
+stays es d (Some (need b p m)) (capital c) n h = h
+stays es d (Some (need b p m)) (small c) n h = h
+stays es d (Some (need b p m)) (opens g) n h = h
+stays es d (Some (need b p m)) _ n h = tt
+stays es d (Some (have b p t)) semicolon n h = absurd (subst T n tt)
+stays es d (Some (have b p t)) plus n h = h
+stays es d (Some (have b p t)) minus n h = h
+stays es d (Some (have b p t)) star n h = h
+stays es d (Some (have b p t)) (closes g) n h = shut_stays es d g b _ h
+stays es d (Some (have b p t)) _ n h = tt
 
 none_first : (t : Kind) (ts : List Kind) → count is_semicolon (t ∷ ts) ≡ 0 → is_semicolon t ≡ false
 none_first t ts e = go (is_semicolon t) e
@@ -153,24 +142,24 @@ run_stays es d [] o e h = h
 run_stays es d (t ∷ ts) o e h = run_stays es d ts (next o t) (omega arith) (stays es d o t (none_first t ts e) h)
 
 -- where the tokens read are split so, the state stands there
-pub inside : (before : List Kind) (st : State) → run start before ≡ some st → (s : Side before) → Inside s.whole s.left (some st)
+pub inside : (before : List Kind) (st : State) → run start before ≡ Some st → (s : Side before) → Inside s.whole s.left (Some st)
 inside before st e s =
     subst (Inside s.whole s.left)
     (sym (ap (run start) s.split ∙ run-++ start (tokens_of s.whole) _ ∙ ap (λ o. run o (capital s.left ∷ equals ∷ s.right)) (reads_all [] s.whole)) ∙ e)
-    (run_stays s.whole s.left s.right (some (need (side s.whole s.left) p_none m_none)) s.unended (refl, refl))
+    (run_stays s.whole s.left s.right (Some (need (side s.whole s.left) p_none m_none)) s.unended (refl, refl))
 
 pub same_right : (whole whole' : List Line) (l l' : ℕ) (r r' : List Kind) → whole ≡ whole' → tokens_of whole ++ (capital l ∷ equals ∷ r) ≡ tokens_of whole' ++ (capital l' ∷ equals ∷ r') → r ≡ r'
 same_right whole whole' l l' r r' e h =
     tail-eq_of_cons-eq (tail-eq_of_cons-eq (append_cancel_left (tokens_of whole) _ _ (h ∙ ap (λ w. tokens_of w ++ (capital l' ∷ equals ∷ r')) (sym e))))
 
-pub read_right : (before : List Kind) (st : State) → run start before ≡ some st → (f : List Line → List Kind → Bool) (s : Side before) → T (f s.whole s.right) → T (over_right st f)
+pub read_right : (before : List Kind) (st : State) → run start before ≡ Some st → (f : List Line → List Kind → Bool) (s : Side before) → T (f s.whole s.right) → T (over_right st f)
 unfolding side_need side_have
 read_right before st e f s h = go st (sound before st e) (inside before st e s)
   where
     moved : (l : List Kind) (t : Side l) → l ≡ before → t.whole ≡ s.whole → T (f t.whole t.right)
     moved l t same w = subst (λ (r : List Kind). T (f t.whole r)) (sym (same_right _ _ _ _ _ _ w (sym t.split ∙ same ∙ s.split))) (subst (λ (w : List Line). T (f w s.right)) (sym w) h)
 
-    go : (to : State) → read to ≡ before → Inside s.whole s.left (some to) → T (over_right to f)
+    go : (to : State) → read to ≡ before → Inside s.whole s.left (Some to) → T (over_right to f)
     go (at es) same i = absurd i
     go (after_left es c) same i = absurd i
     go (need b p m) same i = moved (read (need b p m)) (side_need b p m) same i.0

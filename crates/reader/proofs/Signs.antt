@@ -1,7 +1,8 @@
 -- What is known of the tokens of a text from its bytes: its product signs, and that its letters are bytes.
-use Rattle.std.proofs.Common.{◌≡◌, ℕ, ◌+◌, ◌<◌, Bool, true, false, cond, eqb, leb, List, [], ◌∷◌, sym, refl, ap, ◌∙◌, subst, arith, eqb-true, leb-true}
-use borrow.Author.Tests.{both_ways}
+use Rattle.std.proofs.Common.{◌≡◌, ℕ, ◌+◌, ◌<◌, Bool, true, false, cond, eqb, leb, List, [], ◌∷◌, sym, refl, ap, ◌∙◌, arith, eqb-true, leb-true}
+use Rattle.std.proofs.lemmas.Bool.{both_ways}
 use Rattle.std.proofs.lemmas.Bool.{and_parts}
+use Rattle.std.proofs.lemmas.List.Sums.{sum_by-cons}
 use Rattle.tokens.specs.declared.token.Group.TheVariants.{Round, Square}
 use Rattle.tokens.specs.Kinds.{Kind, number, capital, small, equals, semicolon, plus, minus, star, opens, closes, stray, digit, separator, upper, lower, single}
 use Rattle.tokens.specs.Tokens.{Token, starts_digit, Every, Spells, run, alone}
@@ -39,16 +40,7 @@ single_star b = of_single (λ k. is_star k ≡ eqb b 42) b (record {
 
 longer_star : (d : ℕ) (k : Kind) → is_star (longer d k) ≡ is_star k
 longer_star d (number ds) = refl
-longer_star d (capital a) = refl
-longer_star d (small x) = refl
-longer_star d equals = refl
-longer_star d semicolon = refl
-longer_star d plus = refl
-longer_star d minus = refl
-longer_star d star = refl
-longer_star d (opens g) = refl
-longer_star d (closes g) = refl
-longer_star d (stray b) = refl
+longer_star d _ = refl
 
 abbrev stars : List Token → ℕ
 stars ts = count is_star (kinds ts)
@@ -59,7 +51,9 @@ join_stars p b (t ∷ ts) = ap (λ x. cond {A = ℕ} x 1 0 + stars ts) (longer_s
 
 pub star_signs : (p : ℕ) (bs : List ℕ) → count is_star (kinds (tokens_from p bs)) ≡ product_signs bs
 star_signs p [] = refl
-star_signs p (b ∷ bs) = go (separator b) (digit b) (starts_digit bs) refl refl (tokens_from (p + 1) bs) (star_signs (p + 1) bs)
+star_signs p (b ∷ bs) =
+    go (separator b) (digit b) (starts_digit bs) refl refl (tokens_from (p + 1) bs) (star_signs (p + 1) bs)
+    ∙ sym (sum_by-cons (λ (c : ℕ). cond {A = ℕ} (eqb c 42) 1 0) b bs)
   where
     none : eqb b 42 ≡ false → (n : ℕ) → n ≡ cond (eqb b 42) 1 0 + n
     none e n = sym (ap (λ x. cond {A = ℕ} x 1 0 + n) e ∙ omega arith)
@@ -73,7 +67,7 @@ star_signs p (b ∷ bs) = go (separator b) (digit b) (starts_digit bs) refl refl
 -- ---- a capital is a byte from A to Z
 
 abbrev pub Letter : Kind → Type 0
-Letter = elim [ number ds ↦ Unit {0} | capital a ↦ a < 256 | small x ↦ Unit {0} | equals ↦ Unit {0} | semicolon ↦ Unit {0} | plus ↦ Unit {0} | minus ↦ Unit {0} | star ↦ Unit {0} | opens g ↦ Unit {0} | closes g ↦ Unit {0} | stray b ↦ Unit {0} ]
+Letter = elim [ capital a ↦ a < 256 | _ ↦ Unit {0} ]
 
 abbrev pub Letters : List Token → Type 0
 Letters [] = Unit {0}
@@ -93,16 +87,7 @@ spelled_digits (alone b rest es ed) = trivially (λ k. Every digit (digits_of k)
 
 longer_letter : (d : ℕ) (k : Kind) → Letter k → Letter (longer d k)
 longer_letter d (number ds) h = h
-longer_letter d (capital a) h = h
-longer_letter d (small x) h = h
-longer_letter d equals h = h
-longer_letter d semicolon h = h
-longer_letter d plus h = h
-longer_letter d minus h = h
-longer_letter d star h = h
-longer_letter d (opens g) h = h
-longer_letter d (closes g) h = h
-longer_letter d (stray b) h = h
+longer_letter d _ h = h
 
 pub all_letters : (bs : List ℕ) (p : ℕ) → Letters (tokens_from p bs)
 all_letters [] p = tt
@@ -117,7 +102,3 @@ all_letters (b ∷ bs) p = go (separator b) (digit b) (starts_digit bs) (tokens_
     go false true true ts h = joined ts h
     go false true false ts h = (tt, h)
     go false false n ts h = (single_letter b, h)
-
--- the first token of a text, if it is a capital, is a byte
-pub letters : (bs : List ℕ) (p : ℕ) {t : Token} {ts : List Token} → tokens_from p bs ≡ t ∷ ts → Letter t.kind
-letters bs p e = (subst Letters e (all_letters bs p)).0

@@ -1,6 +1,5 @@
 -- What the machine has read is what its derivation so far is written with.
-use Rattle.std.proofs.Common.{◌≡◌, List, [], ◌∷◌, ◌++◌, sym, refl, ap, ◌∙◌, subst, append_assoc, append-nil}
-use mathlib.Core.Option.{Option, none, some}
+use Rattle.std.proofs.Common.{◌≡◌, List, [], ◌∷◌, ◌++◌, sym, refl, ap, ◌∙◌, subst, append_assoc, append-nil, Some, None, Option}
 use Rattle.tokens.specs.declared.token.Group.{Group}
 use Rattle.tokens.specs.declared.token.Group.TheVariants.{Round as round, Square as square}
 use Rattle.tokens.specs.Kinds.{Kind, number, capital, small, equals, semicolon, plus, minus, star, opens, closes, stray}
@@ -41,8 +40,8 @@ tokens_of_more (e ∷ es) q = ap (λ l. line_tokens e ++ l) (tokens_of_more es q
 
 -- where a step is made, the token is read
 abbrev pub Reads : State → Kind → Option State → Type 0
-Reads st t none = Unit {0}
-Reads st t (some to) = read to ≡ read st ++ (t ∷ [])
+Reads st t None = Unit {0}
+Reads st t (Some to) = read to ≡ read st ++ (t ∷ [])
 
 leaf : (b : Place) (p : Pre) (m : Mul) (f : Factor) (t : Kind) → factor_tokens f ≡ t ∷ [] → read (have b p (with_factor m f)) ≡ read (need b p m) ++ (t ∷ [])
 leaf b p m f t e = simp (with_factor_tokens, e, append_assoc)
@@ -108,29 +107,29 @@ reads (have b p t) (closes g) = shuts g b p t
 reads (have b p t) (stray x) = tt
 
 abbrev Told : List Kind → Option State → Type 0
-Told ts none = Unit {0}
-Told ts (some to) = read to ≡ ts
+Told ts None = Unit {0}
+Told ts (Some to) = read to ≡ ts
 
 -- over a whole run
 abbrev pub ReadAll : List Kind → List Kind → Option State → Type 0
-ReadAll before ts none = Unit {0}
-ReadAll before ts (some to) = read to ≡ before ++ ts
+ReadAll before ts None = Unit {0}
+ReadAll before ts (Some to) = read to ≡ before ++ ts
 
 pub run_reads : (ts : List Kind) (o : Option State) (before : List Kind) → Told before o → Told (before ++ ts) (run o ts)
 run_reads [] o before h = subst (λ l. Told l o) (sym (append-nil before)) h
 run_reads (t ∷ ts) o before h = subst (λ l. Told l (run (next o t) ts)) (append_assoc before (t ∷ []) ts) (run_reads ts (next o t) (before ++ (t ∷ [])) (one o before h))
   where
     one : (o : Option State) (before : List Kind) → Told before o → Told (before ++ (t ∷ [])) (next o t)
-    one none before h = tt
-    one (some st) before h = more (step st t) (reads st t)
+    one None before h = tt
+    one (Some st) before h = more (step st t) (reads st t)
       where
         more : (p : Option State) → Reads st t p → Told (before ++ (t ∷ [])) p
-        more none r = tt
-        more (some to) r = r ∙ ap (λ l. l ++ (t ∷ [])) h
+        more None r = tt
+        more (Some to) r = r ∙ ap (λ l. l ++ (t ∷ [])) h
 
 abbrev pub start : Option State
-start = some (at [])
+start = Some (at [])
 
 -- SOUND: what the machine has read is written with its derivation so far
-pub sound : (ts : List Kind) (st : State) → run start ts ≡ some st → read st ≡ ts
+pub sound : (ts : List Kind) (st : State) → run start ts ≡ Some st → read st ≡ ts
 sound ts st e = subst (Told ts) e (run_reads ts start [] refl)

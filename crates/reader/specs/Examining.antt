@@ -1,5 +1,5 @@
 -- Which texts are accepted, which fault decides of any other, and what examining a text answers.
-use Rattle.std.specs.Prelude.{◌≡◌, ℕ, ◌+◌, ◌<◌, ◌≤◌, cond, List, [], ◌∷◌, length, Ok, Err, Result, ◌==◌}
+use Rattle.std.specs.Prelude.{◌≡◌, ℕ, ◌<◌, ◌≤◌, count_by, List, length, Ok, Err, Result, ◌==◌}
 use Rattle.systems.specs.Trees.{System}
 use Rattle.tokens.specs.Tokens.{Token, Tokens}
 use Rattle.reader.specs.declared.fault.Rule.{Rule}
@@ -36,8 +36,7 @@ pub data Faulty (bs : List ℕ) : TextFault → Type 0 where
 
 -- the product signs of a text: its bytes *
 abbrev pub product_signs : List ℕ → ℕ
-product_signs [] = 0
-product_signs (b ∷ bs) = cond (b == 42) 1 0 + product_signs bs
+product_signs bs = count_by (λ b. b == 42) bs
 
 -- the number of nodes and of product signs where the text is accepted, and else the fault that decides
 abbrev pub Examined : List ℕ → Result (ℕ × ℕ) TextFault → Type 0

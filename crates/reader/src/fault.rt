@@ -1,28 +1,32 @@
 // Why a text is refused.
-ghost use Rattle.reader.specs.Faults.{number_of, place_of};
-ghost use Rattle.std.specs.Prelude.{◌≡◌};
+ghost use Rattle.reader.specs.Examining.{fault};
+ghost use Rattle.reader.specs.Faults.{message, number_of, place_of};
+ghost use Rattle.std.specs.Prelude.{◌≡◌, Some};
 
-// The rules of texts.
+use std::error::Error;
+use std::fmt;
+
+// The rules of texts, each with the number of its refusal.
 #[derive(Clone, Copy, PartialEq, Eq, Debug)]
 pub enum Rule {
-    // 10: more than 4,096 bytes
-    TooLong,
-    // 11: a byte that begins no token
-    NoToken,
-    // 12: a number of more than 9 digits
-    LongNumber,
-    // 13: a token that the grammar does not allow there, or the end of the text
-    NotAllowed,
-    // 14: an opening sign that already lies in 16 groups
-    TooDeep,
-    // 15: a left capital that already has an equation
-    Repeated,
-    // 16: a capital outside all square brackets whose equation does not stand wholly before this one
-    TooEarly,
-    // 17: a capital without an equation
-    NoEquation,
-    // 18: the token of the sixty-fifth node
-    TooManyNodes,
+    // more than 4,096 bytes
+    TooLong = 10,
+    // a byte that begins no token
+    NoToken = 11,
+    // a number of more than 9 digits
+    LongNumber = 12,
+    // a token that the grammar does not allow there, or the end of the text
+    NotAllowed = 13,
+    // an opening sign that already lies in 16 groups
+    TooDeep = 14,
+    // a left capital that already has an equation
+    Repeated = 15,
+    // a capital outside all square brackets whose equation does not stand wholly before this one
+    TooEarly = 16,
+    // a capital without an equation
+    NoEquation = 17,
+    // the token of the sixty-fifth node
+    TooManyNodes = 18,
 }
 
 // A rule that a text breaks, and the place: the number of bytes before the token that breaks it.
@@ -32,22 +36,21 @@ pub struct TextFault {
     pub place: usize,
 }
 
+impl Rule {
+    // The rule is broken at this place.
+    pub(super) fn at(self, place: usize) -> TextFault
+        ensures { result ≡ fault self place }
+    {
+        TextFault { rule: self, place }
+    }
+}
+
 impl TextFault {
     // The number of the refusal.
     pub fn number(&self) -> u8
         ensures { result ≡ number_of self.now }
     {
-        match self.rule {
-            Rule::TooLong => 10,
-            Rule::NoToken => 11,
-            Rule::LongNumber => 12,
-            Rule::NotAllowed => 13,
-            Rule::TooDeep => 14,
-            Rule::Repeated => 15,
-            Rule::TooEarly => 16,
-            Rule::NoEquation => 17,
-            Rule::TooManyNodes => 18,
-        }
+        self.rule as u8
     }
 
     // The place of the fault.
@@ -57,3 +60,13 @@ impl TextFault {
         self.place
     }
 }
+
+impl fmt::Display for TextFault {
+    ghost output = { λ fault. Some (message fault) };
+
+    fn fmt<W: fmt::Write>(&self, f: &mut fmt::Formatter<W>) -> fmt::Result {
+        write!(f, "fault {} at {}", self.number(), self.place)
+    }
+}
+
+impl Error for TextFault {}

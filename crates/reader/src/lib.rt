@@ -8,11 +8,12 @@ mod progress;
 pub use examining::examine;
 pub use fault::{Rule, TextFault};
 
-// The most bytes of a text, the most digits of a number, the most groups that a sign may lie in, and the most nodes of a system.
+// The most bytes of a text, and the most digits of a number.
 const MOST_BYTES: usize = 4096;
 
 const MOST_DIGITS: usize = 9;
 
-const MOST_GROUPS: usize = 16;
+// The most groups that a sign may lie in, and the most nodes of a system.
+pub const MOST_GROUPS: usize = 16;
 
-const MOST_NODES: usize = 64;
+pub const MOST_NODES: usize = 64;

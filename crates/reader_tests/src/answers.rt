@@ -4,10 +4,7 @@ use std::process::Abort;
 
 // The numbers of nodes and of product signs, or the number and the place of the refusal.
 fn answer(text: &[u8]) -> Result<(usize, usize), (u8, usize)> {
-    match examine(text) {
-        Ok(counts) => Ok(counts),
-        Err(fault) => Err((fault.number(), fault.place())),
-    }
+    examine(text).map_err(|fault| (fault.number(), fault.place()))
 }
 
 pub(super) fn accepted(rt: &impl Abort, text: &[u8], nodes: usize, products: usize) {

@@ -1,5 +1,7 @@
 // Which letters stand where, and which fault decides.
 use super::answers::{accepted, refused};
+use reader::examine;
+use std::test::Fail;
 
 // Each capital has one equation, which stands before any use outside square brackets.
 #[test]
@@ -53,4 +55,19 @@ fn first_fault(rt: HostRuntime) {
     refused(&rt, b"A=[B]+(((((((((((((((((", 14, 22);
     refused(&rt, b"A=[B];A=1;", 15, 6);
     refused(&rt, b"A=[B]+B;", 16, 6);
+}
+
+// A fault says its number and its place.
+#[test]
+fn in_words(rt: HostRuntime) -> Result<(), Fail> {
+    for (text, words) in [
+        (&b"A=A;"[..], "fault 16 at 2"),
+        (b"", "fault 13 at 0"),
+        (b"A=(((((((((((((((((", "fault 14 at 18"),
+        (&[b' '; 4097], "fault 10 at 4096"),
+    ] {
+        let fault = examine(text).err().ok_or("accepted")?;
+        assert_eq!(rt; format!(in rt.alloc(); "{fault}")?.as_str(), words);
+    }
+    Ok(())
 }

@@ -1,5 +1,6 @@
 // Texts as records.
 use records::{MOST_NODES, Node, Record, read};
+use std::fmt::Display;
 use std::process::Abort;
 use std::test::Fail;
 
@@ -138,4 +139,48 @@ fn most_records(rt: HostRuntime) {
     assert_eq!(rt; records[2], operand(Node::Sum(0, 1)));
     assert_eq!(rt; records[62], operand(Node::Sum(60, 61)));
     assert_eq!(rt; records[63], right_side(Node::Bracket(62), b'A'));
+}
+
+fn prints(
+    rt: &(impl Abort + AllocGlobal),
+    value: impl Display + Drop,
+    expected: &str,
+) -> Result<(), Fail> {
+    let text = value.to_string(rt.alloc())?;
+    assert_eq!(rt; text.as_str(), expected);
+    Ok(())
+}
+
+// A node prints its name with its letter or number, or with the numbers of its operands' records.
+#[test]
+fn printed_nodes(rt: HostRuntime) -> Result<(), Fail> {
+    for (node, expected) in [
+        (Node::Number(4_294_967_295), "number 4294967295"),
+        (Node::Name(b'Z'), "name Z"),
+        (Node::Unknown(63), "unknown at 63"),
+        (Node::Input(b'u'), "input u"),
+        (Node::Sum(0, 10), "sum of 0 and 10"),
+        (Node::Difference(3, 2), "difference of 3 and 2"),
+        (Node::Product(5, 1), "product of 5 and 1"),
+        (Node::Bracket(7), "bracket of 7"),
+    ] {
+        prints(&rt, node, expected)?;
+    }
+    Ok(())
+}
+
+// A record prints its node, and behind it the unknown whose right side it is.
+#[test]
+fn printed_records(rt: HostRuntime) -> Result<(), Fail> {
+    prints(&rt, operand(Node::Product(1, 2)), "product of 1 and 2")?;
+    prints(
+        &rt,
+        right_side(Node::Number(0), b'A'),
+        "number 0, the right side of A",
+    )
+}
+
+#[test]
+fn unused_record(rt: HostRuntime) {
+    assert_eq!(rt; Record::default(), operand(Node::Number(0)));
 }

@@ -1,6 +1,6 @@
 // Tokens one after another.
 use std::test::Fail;
-use tokens::{Group, Token, next_token};
+use tokens::{Group, Token, next_token, tokens};
 
 // A token as its name and the byte that it holds; of a number, how many digits it has.
 fn told(token: Token) -> (&'static str, usize) {
@@ -21,28 +21,31 @@ fn told(token: Token) -> (&'static str, usize) {
     }
 }
 
-// The tokens of a text, with what is left of it where they begin and behind them.
+// A text, and its tokens with what is left of it where they begin and behind them.
+const TEXT: &[u8] = b" T = [007]\n*(b-9)+]#;\n ";
+
+const TOKENS: [(&str, usize, usize, usize); 15] = [
+    ("capital", 84, 22, 21),
+    ("=", 0, 20, 19),
+    ("[", 0, 18, 17),
+    ("number", 3, 17, 14),
+    ("]", 0, 14, 13),
+    ("*", 0, 12, 11),
+    ("(", 0, 11, 10),
+    ("small", 98, 10, 9),
+    ("-", 0, 9, 8),
+    ("number", 1, 8, 7),
+    (")", 0, 7, 6),
+    ("+", 0, 6, 5),
+    ("]", 0, 5, 4),
+    ("stray", 35, 4, 3),
+    (";", 0, 3, 2),
+];
+
 #[test]
 fn one_after_another(rt: HostRuntime) -> Result<(), Fail> {
-    let mut rest: &[u8] = b" T = [007]\n*(b-9)+]#;\n ";
-    let expected = [
-        ("capital", 84, 22, 21),
-        ("=", 0, 20, 19),
-        ("[", 0, 18, 17),
-        ("number", 3, 17, 14),
-        ("]", 0, 14, 13),
-        ("*", 0, 12, 11),
-        ("(", 0, 11, 10),
-        ("small", 98, 10, 9),
-        ("-", 0, 9, 8),
-        ("number", 1, 8, 7),
-        (")", 0, 7, 6),
-        ("+", 0, 6, 5),
-        ("]", 0, 5, 4),
-        ("stray", 35, 4, 3),
-        (";", 0, 3, 2),
-    ];
-    for (name, held, left, behind) in expected {
+    let mut rest = TEXT;
+    for (name, held, left, behind) in TOKENS {
         let lexed = next_token(rest).ok_or("no token")?;
         assert_eq!(rt; told(lexed.token), (name, held));
         assert_eq!(rt; (lexed.left, lexed.rest.len()), (left, behind));
@@ -54,5 +57,21 @@ fn one_after_another(rt: HostRuntime) -> Result<(), Fail> {
         return Err(Fail::new("no number"));
     };
     assert_eq!(rt; digits, b"0072".as_slice());
+    Ok(())
+}
+
+// The iterator gives the same tokens, each with its place, and stays at its end.
+#[test]
+fn with_places(rt: HostRuntime) -> Result<(), Fail> {
+    let mut listed = tokens(TEXT);
+    for (name, held, left, _) in TOKENS {
+        let (place, token) = listed.next().ok_or("no token")?;
+        assert_eq!(rt; told(token), (name, held));
+        assert_eq!(rt; TEXT.len().checked_sub(left), Some(place));
+    }
+    assert!(rt; listed.next().is_none());
+    assert!(rt; listed.next().is_none());
+    assert_eq!(rt; tokens(TEXT).count(), TOKENS.len());
+    assert_eq!(rt; tokens(b" \n").count(), 0);
     Ok(())
 }

@@ -1,14 +1,12 @@
 -- Completed names, and the layout of a system.
-use Rattle.std.proofs.Common.{◌≡◌, ℕ, ◌+◌, ◌-◌, List, [], ◌∷◌, ◌++◌, map, length, get_or, take, drop, Some, None, Option, refl, ap, ◌∙◌, arith}
-use mathlib.Core.Path.{fun_ext}
-use mathlib.Core.List.{map-append}
-use Rattle.std.proofs.lemmas.List.{take_at, drop_at}
+use Rattle.std.proofs.Common.{◌≡◌, ℕ, ◌+◌, List, [], ◌∷◌, ◌++◌, map, length, get_or, Some, None, Option, refl, ap, ◌∙◌}
+use Rattle.std.proofs.Math.Path.{fun_ext}
+use Rattle.std.proofs.lemmas.List.{map-append}
 use Rattle.systems.specs.Trees as Trees
 use Rattle.systems.specs.Trees.{Tree, System}
 use Rattle.reader.specs.Nodes.{nodes_in, nodes}
 use Rattle.records.specs.declared.record.Node.{Node}
 use Rattle.records.specs.declared.record.Node.TheVariants as node
-use Rattle.records.specs.declared.record.Record.{Record}
 use Rattle.records.specs.declared.writer.Writer.{Writer}
 use Rattle.records.specs.Layout.{entry, node_of, operands, laid, laid_all, layout}
 use Rattle.records.specs.Inner.Writing.{completed, Written}
@@ -49,18 +47,10 @@ module _ (roots : List ℕ) where
       map-append (completed roots) (laid node.Name n (Some e.left) e.right) _
       ∙ (λ i. own_done n (Some e.left) e.right (operands_done n e.right) i ++ all_done (n + nodes_in e.right) S i)
 
--- the front part completed, and the rest as it was
-pub completes : (S : System) (lent : List Record) (w : Writer) (done : List Record) → Written S lent w → done ≡ map (completed w.roots) (take (w.sheet.count - 0) w.sheet.records)
-    → done ++ drop (w.sheet.count - 0) w.sheet.records ≡ layout S ++ drop (nodes S) lent
-completes S lent w done h e = (λ i. (e ∙ whole) i ++ rest i)
-  where
-    count : w.sheet.count - 0 ≡ length (laid_all node.Name 0 S)
-    count = omega (arith, h.count, laid_all_length node.Name 0 S)
+-- the records that are written, completed
+pub completes : (S : System) (w : Writer) → Written S w → map (completed w.roots) w.sheet.records.items ≡ layout S
+completes S w h = ap (map (completed w.roots)) h.records ∙ all_done w.roots 0 S ∙ ap (λ f. laid_all f 0 S) (fun_ext (λ a. ap node.Unknown (h.roots a)))
 
-    whole : map (completed w.roots) (take (w.sheet.count - 0) w.sheet.records) ≡ layout S
-    whole =
-        (λ i. map (completed w.roots) (take (count i) (h.records i))) ∙ ap (map (completed w.roots)) (take_at (laid_all node.Name 0 S) (drop (nodes S) lent) _ refl)
-        ∙ all_done w.roots 0 S ∙ ap (λ f. laid_all f 0 S) (fun_ext (λ a. ap node.Unknown (h.roots a)))
-
-    rest : drop (w.sheet.count - 0) w.sheet.records ≡ drop (nodes S) lent
-    rest = (λ i. drop (count i) (h.records i)) ∙ drop_at (laid_all node.Name 0 S) (drop (nodes S) lent) _ refl
+-- as many as the system has nodes
+pub as_many : (S : System) (w : Writer) → Written S w → length w.sheet.records.items ≡ nodes S
+as_many S w h = ap length h.records ∙ laid_all_length node.Name 0 S

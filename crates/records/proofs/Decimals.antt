@@ -1,6 +1,5 @@
 -- The numbers that digits write.
-use Rattle.std.proofs.Common.{◌≡◌, ℕ, zero, suc, ◌+◌, ◌-◌, ◌*◌, ◌<◌, ◌≤◌, min, leb, List, [], ◌∷◌, length, get_or, drop, sym, ap, ◌∙◌, add-one, arith, drop-cons, leb-true}
-use Rattle.std.proofs.lemmas.List.{drop_all}
+use Rattle.std.proofs.Common.{◌≡◌, ℕ, zero, suc, ◌+◌, ◌-◌, ◌*◌, ◌<◌, ◌≤◌, min, leb, List, [], ◌∷◌, length, fold, sym, ap, ◌∙◌, arith, leb-true}
 use Rattle.std.proofs.lemmas.Bool.{and_parts}
 use Rattle.tokens.specs.Kinds.{digit}
 use Rattle.tokens.specs.Tokens.{Every}
@@ -13,17 +12,15 @@ cut x [] = omega arith
 cut x (d ∷ ds) =
     sym (cut (min x 4294967295 * 10 + (d - 48)) ds) ∙ ap (λ (n : ℕ). min (decimal_from n ds) 4294967295) (omega arith) ∙ cut (x * 10 + (d - 48)) ds
 
--- one digit more
-pub one_digit : (ds : List ℕ) (i v w : ℕ) → i < length ds → w ≡ min (min (v * 10) 4294967295 + (get_or ds i 0 - 48)) 4294967295
-    → min (decimal_from v (drop i ds)) 4294967295 ≡ min (decimal_from w (drop (i + 1) ds)) 4294967295
-one_digit ds i v w h e =
-    ap (λ l. min (decimal_from v l) 4294967295) (drop-cons ds i 0 h ∙ ap (λ n. get_or ds i 0 ∷ drop n ds) (sym (add-one i)))
-    ∙ sym (cut (v * 10 + (get_or ds i 0 - 48)) (drop (i + 1) ds))
-    ∙ ap (λ n. min (decimal_from n (drop (i + 1) ds)) 4294967295) (omega (arith, e))
+-- a number and one digit more
+abbrev pub with_digit : ℕ → ℕ → ℕ
+with_digit n d = min (min (n * 10) 4294967295 + (d - 48)) 4294967295
 
--- no digit more
-pub no_digit : (ds : List ℕ) (i v : ℕ) → length ds ≤ i → v < 4294967296 → min (decimal_from v (drop i ds)) 4294967295 ≡ v
-no_digit ds i v h k = ap (λ l. min (decimal_from v l) 4294967295) (drop_all i ds h) ∙ omega arith
+-- digit by digit
+pub folded : (n : ℕ) (ds : List ℕ) → n ≤ 4294967295 → fold with_digit n ds ≡ min (decimal_from n ds) 4294967295
+folded n [] h = omega arith
+folded n (d ∷ ds) h =
+    folded (with_digit n d) ds (omega arith) ∙ ap (λ m. min (decimal_from m ds) 4294967295) (omega arith) ∙ cut (n * 10 + (d - 48)) ds
 
 -- ---- nine digits write a number below 10^9
 

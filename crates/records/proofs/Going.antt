@@ -1,48 +1,60 @@
--- What a turn of the writing loop keeps.
-use Rattle.std.proofs.Common.{◌≡◌, ℕ, ◌≤◌, List, [], length, sym, refl, subst}
+-- What is written of the tokens of an accepted text.
+use Rattle.std.proofs.Common.{◌≡◌, ℕ, List, [], ◌∷◌, fold, sym, refl, ap, ◌∙◌, subst, Some, None, Option}
 use Rattle.systems.specs.Trees.{System}
-use Rattle.tokens.specs.declared.lexer.Lexed.{Lexed}
-use Rattle.tokens.specs.Kinds.{separator}
-use Rattle.tokens.specs.Lexing.{seen, Front}
-use Rattle.tokens.specs.Tokens.{Every}
-use Rattle.tokens.proofs.Cutting.{none_left}
+use Rattle.tokens.specs.Kinds.{digit}
+use Rattle.tokens.specs.Tokens.{Token, Tokens, ends, goes_on, Every}
+use Rattle.tokens.proofs.Listing.{only_tokens}
+use Rattle.reader.specs.declared.fault.Rule.{Rule}
+use Rattle.reader.specs.declared.fault.Rule.TheVariants.{NotAllowed}
 use Rattle.reader.specs.declared.progress.Progress.{Progress}
+use Rattle.reader.specs.Examining.{Accepts}
 use Rattle.reader.specs.Inner.Progress.{after as read_after, nothing_read}
-use Rattle.reader.proofs.Machine.{State, at}
-use Rattle.reader.proofs.Faults.{stepped}
-use Rattle.reader.proofs.Follow.{unbroken}
-use Rattle.reader.proofs.Reading.{Stands, standing, steps_on, turned, Ends, unbroken_in, at_last}
-use Rattle.reader.proofs.Signs.{spelled_digits}
-use Rattle.records.specs.declared.record.Record.{Record}
+use Rattle.reader.specs.Rules.{kinds}
+use Rattle.reader.specs.Sorts.{digits_of}
+use Rattle.reader.proofs.Machine.{State, at, step}
+use Rattle.reader.proofs.Faults.{test, first, rules, stepped, steps, least, Least, ascending, among_all, Scan, stop, end, scan}
+use Rattle.reader.proofs.Follow.{Code, unbroken, follows, same_tests}
+use Rattle.reader.proofs.Reading.{begin, accepted_ends}
+use Rattle.reader.proofs.Signs.{Letters, all_letters, spelled_digits}
 use Rattle.records.specs.declared.writer.Writer.{Writer}
 use Rattle.records.specs.Inner.Writing.{nothing_written, after, Written}
 use Rattle.records.proofs.Written.{Writes, writes_none, few, moves, all_written}
 
--- the writer, with `rest` to read
-abbrev pub Going : List ℕ → List ℕ → List Record → Writer → Type 0
-Going text rest lent w = (st : State) × (s : Progress) × Stands text rest st s × Writes lent st w
+-- the digits of each token are digits
+abbrev AllDigits : List Token → Type 0
+AllDigits [] = Unit {0}
+AllDigits (t ∷ ts) = Every digit (digits_of t.kind) × AllDigits ts
 
-pub going : (text : List ℕ) (lent : List Record) (w : Writer) → length text ≤ 4096 → w ≡ nothing_written lent → Going text text lent w
-going text lent w h e = (at [], nothing_read, standing text nothing_read h refl, subst (Writes lent (at [])) (sym e) (writes_none lent))
+all_digits : {p : ℕ} {bs : List ℕ} {ts : List Token} → Tokens p bs ts → AllDigits ts
+all_digits (ends p gap h) = tt
+all_digits (goes_on p gap word rest k ts h spelled more) = (spelled_digits spelled, all_digits more)
 
-module _ (text rest : List ℕ) (lent : List Record) (wide : length lent ≡ 64) (w : Writer) (S : System) (fin : Ends text S) (h : Going text rest lent w) where
-  -- one token more
-  pub goes_on : (l : Lexed) → Front rest l → Going text l.rest.now lent (after w (seen l.token))
-  goes_on l f =
-      let t = seen l.token in
-      let st = h.0 in
-      let s = h.1 in
-      let whole = unbroken_in text rest st s h.2 (at fin.lines) fin.scans l f in
-      let next = turned text rest st s h.2 l f whole in
-      let to = steps_on text rest st s h.2 t whole in (
-        stepped st t,
-        read_after s t,
-        next,
-        moves lent wide st (stepped st t) t to w s h.2.follows (unbroken s t whole) (spelled_digits f.spelled) (few (stepped st t) (read_after s t) next.follows) h.3,
-      )
+-- tokens that break no rule, from a state of the machine to another
+writes_all : (ts : List Token) (st : State) (s : Progress) (w : Writer) (fin : State) → Letters ts → AllDigits ts → Code st s → scan st ts ≡ end fin → Writes st w → Writes fin (fold after w (kinds ts))
+writes_all [] st s w fin l d c e h = let same : st ≡ fin = cc in subst (λ (x : State). Writes x w) same h
+writes_all (t ∷ ts) st s w fin l d c e h = go (first (test st t.kind) rules) refl (writes_all ts (stepped st t.kind) (read_after s t.kind) (after w t.kind) fin l.1 d.1)
+  where
+    to : State
+    to = stepped st t.kind
 
-  -- the end
-  pub stops : Every separator rest → Written S lent w
-  stops e =
-      let last = at_last text rest h.0 h.1 h.2 (at fin.lines) fin.scans (none_left rest e) in
-      subst (λ (R : System). Written R lent w) fin.system (all_written lent fin.lines w (subst (λ (st : State). Writes lent st w) last h.3))
+    by : (o : Option Rule) → first (test st t.kind) rules ≡ o → scan st (t ∷ ts) ≡ elim o [ None ↦ scan to ts | Some k ↦ stop k t.place ]
+    by o w = ap {B = Scan} (λ (o : Option Rule). elim o [ None ↦ scan to ts | Some k ↦ stop k t.place ]) w
+
+    go : (o : Option Rule) → first (test st t.kind) rules ≡ o → (Code to (read_after s t.kind) → scan to ts ≡ end fin → Writes to (after w t.kind) → Writes fin (fold after (after w t.kind) (kinds ts))) → Writes fin (fold after (after w t.kind) (kinds ts))
+    go (Some k) x more = let stops = by (Some k) x in absurd (cc (stops, e))
+    go None x more =
+        let ok : Least (test st t.kind) rules None = subst (Least (test st t.kind) rules) x (least (test st t.kind) rules ascending) in
+        let goes : step st t.kind ≡ Some to = steps (step st t.kind) st (ok NotAllowed (among_all NotAllowed)) in
+        let whole = unbroken s t.kind (same_tests st s t.kind c ∙ x) in
+        let next = follows st to s t.kind goes c whole l.0 in
+        more next (sym (by None x) ∙ e) (moves st to t.kind goes w s c whole d.0 (few to (read_after s t.kind) next) h)
+
+-- all tokens of an accepted text
+pub writes_system : (text : List ℕ) (S : System) (h : Accepts text S) → Written S (fold after nothing_written (kinds h.tokens))
+writes_system text S h =
+    let same = only_tokens h.listed in
+    let fin = accepted_ends text S h in
+    subst (λ (R : System). Written R (fold after nothing_written (kinds h.tokens))) fin.system
+    (all_written fin.lines _
+    (writes_all h.tokens (at []) nothing_read nothing_written (at fin.lines) (subst Letters same (all_letters text 0)) (all_digits h.listed)
+    begin (subst (λ ts. scan (at []) ts ≡ end (at fin.lines)) same fin.scans) writes_none))

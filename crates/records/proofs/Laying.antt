@@ -19,9 +19,6 @@ some_nodes (Trees.bracket s) = omega arith
 
 -- ---- how many records there are
 
-pub snoc_length : (a : List Record) (r : Record) → length (a ++ (r ∷ [])) ≡ length a + 1
-snoc_length a r = length-append a (r ∷ [])
-
 module _ (names : ℕ → Node) where
   pair_length : (n : ℕ) (s t : Tree) → length (operands names n s) + 1 ≡ nodes_in s → length (operands names (n + nodes_in s) t) + 1 ≡ nodes_in t
       → length (laid names n None s ++ laid names (n + nodes_in s) None t) + 1 ≡ nodes_in s + nodes_in t + 1
@@ -34,10 +31,10 @@ module _ (names : ℕ → Node) where
   operands_length n (Trees.sum s t) = pair_length n s t (operands_length n s) (operands_length (n + nodes_in s) t)
   operands_length n (Trees.difference s t) = pair_length n s t (operands_length n s) (operands_length (n + nodes_in s) t)
   operands_length n (Trees.product s t) = pair_length n s t (operands_length n s) (operands_length (n + nodes_in s) t)
-  operands_length n (Trees.bracket s) = omega (arith, snoc_length (operands names n s) (entry (node_of names n s) None), operands_length n s)
+  operands_length n (Trees.bracket s) = omega (arith, length-append (operands names n s) (entry (node_of names n s) None ∷ []), operands_length n s)
 
   pub laid_length : (n : ℕ) (of : Option ℕ) (t : Tree) → length (laid names n of t) ≡ nodes_in t
-  laid_length n of t = omega (arith, snoc_length (operands names n t) (entry (node_of names n t) of), operands_length n t)
+  laid_length n of t = omega (arith, length-append (operands names n t) (entry (node_of names n t) of ∷ []), operands_length n t)
 
   pub laid_all_length : (n : ℕ) (S : System) → length (laid_all names n S) ≡ nodes S
   laid_all_length n [] = refl
@@ -45,13 +42,17 @@ module _ (names : ℕ → Node) where
       length-append (laid names n (Some e.left) e.right) (laid_all names (n + nodes_in e.right) S)
       ∙ omega (arith, laid_length n (Some e.left) e.right, laid_all_length (n + nodes_in e.right) S)
 
+  -- further equations
+  pub laid_split : (n : ℕ) (S R : System) → laid_all names n (S ++ R) ≡ laid_all names n S ++ laid_all names (n + nodes S) R
+  laid_split n [] R = ap (λ m. laid_all names m R) (omega arith)
+  laid_split n (e ∷ S) R =
+      ap (λ l. laid names n (Some e.left) e.right ++ l) (laid_split (n + nodes_in e.right) S R)
+      ∙ sym (append_assoc (laid names n (Some e.left) e.right) _ _)
+      ∙ ap (λ m. laid_all names n (e ∷ S) ++ laid_all names m R) (omega arith)
+
   -- one equation more
   pub laid_more : (n : ℕ) (S : System) (e : Equation) → laid_all names n (S ++ (e ∷ [])) ≡ laid_all names n S ++ laid names (n + nodes S) (Some e.left) e.right
-  laid_more n [] e = append-nil _ ∙ ap (λ m. laid names m (Some e.left) e.right) (omega arith)
-  laid_more n (d ∷ S) e =
-      ap (λ l. laid names n (Some d.left) d.right ++ l) (laid_more (n + nodes_in d.right) S e)
-      ∙ sym (append_assoc (laid names n (Some d.left) d.right) _ _)
-      ∙ ap (λ m. laid_all names n (d ∷ S) ++ laid names m (Some e.left) e.right) (omega arith)
+  laid_more n S e = laid_split n S (e ∷ []) ∙ ap (λ l. laid_all names n S ++ l) (append-nil _)
 
 -- ---- a tree behind records, with names that are not completed
 

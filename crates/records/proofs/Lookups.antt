@@ -1,6 +1,8 @@
 -- What stands where in the records of a system.
-use Rattle.std.proofs.Common.{◌≡◌, ℕ, zero, suc, ◌+◌, ◌⊎◌, List, [], ◌∷◌, ◌++◌, length, Some, None, Option, sym, refl, ap, ◌∙◌, inl, inr, append_assoc, arith, length-append}
+use Rattle.std.proofs.Common.{◌≡◌, ℕ, zero, suc, ◌+◌, ◌⊎◌, List, [], ◌∷◌, ◌++◌, length, get_or, Some, None, Option, sym, refl, ap, ◌∙◌, inl, inr, append_assoc, arith, length-append}
 use Rattle.std.specs.Prelude.{slice_get}
+use Rattle.std.proofs.Math.Seq.{get_or-append_seam}
+use Rattle.std.proofs.lemmas.Option.{slice_get_read, none-some, same_Some}
 use Rattle.systems.specs.Trees as Trees
 use Rattle.systems.specs.Trees.{Tree, Equation, System}
 use Rattle.reader.specs.Nodes.{nodes_in, nodes}
@@ -11,15 +13,8 @@ use Rattle.records.proofs.Laying.{operands_length, laid_length}
 
 -- ---- lists
 
-behind : (a b : List Record) (r : Record) (i : ℕ) → i ≡ length a → slice_get (a ++ (r ∷ b)) i ≡ Some r
-behind a b r i e = ap (slice_get (a ++ (r ∷ b))) e ∙ go a
-  where
-    go : (a : List Record) → slice_get (a ++ (r ∷ b)) (length a) ≡ Some r
-    go [] = refl
-    go (x ∷ a) = go a
-
-none_some : {X : Type 0} (x : X) → ◌≡◌ {A = Option X} None (Some x) → ⊥
-none_some x e = let z : ◌≡◌ {A = ℕ} 0 1 = cc in omega arith
+pub behind : {X : Type 0} (a b : List X) (x : X) (i : ℕ) → i ≡ length a → slice_get (a ++ (x ∷ b)) i ≡ Some x
+behind a b x i e = slice_get_read (a ++ (x ∷ b)) _ i x refl (omega (arith, length-append a (x ∷ b))) (sym (get_or-append_seam a x b x) ∙ ap (λ n. get_or (a ++ (x ∷ b)) n x) (sym e))
 
 -- an element of two lists joined is one of the first or one of the second
 split_get : (a b : List Record) (i : ℕ) (x : Record) → slice_get (a ++ b) i ≡ Some x → (slice_get a i ≡ Some x) ⊎ ((q : ℕ) × (i ≡ length a + q) × (slice_get b q ≡ Some x))
@@ -29,10 +24,7 @@ split_get (y ∷ a) b (suc i) x e = elim (split_get a b i x e) [ inl h ↦ inl h
 
 only_get : (r : Record) (i : ℕ) (x : Record) → slice_get (r ∷ []) i ≡ Some x → (i ≡ 0) × (r ≡ x)
 only_get r zero x e = (refl, cc)
-only_get r (suc i) x e = absurd (none_some _ e)
-
-some_some : (a b : ℕ) → ◌≡◌ {A = Option ℕ} (Some a) (Some b) → a ≡ b
-some_some a b e = cc
+only_get r (suc i) x e = absurd (none-some _ e)
 
 module _ (names : ℕ → Node) where
   -- ---- the record of a tree
@@ -55,10 +47,10 @@ module _ (names : ℕ → Node) where
   join_unmarked a b h k i node c e = elim (split_get a b i _ e) [ inl w ↦ h i node c w | inr w ↦ k w.0 node c w.2 ]
 
   one_unmarked : (node : Node) → Unmarked (entry node None ∷ [])
-  one_unmarked node i x a e = none_some a (ap (λ (r : Record). r.unknown) (only_get (entry node None) i (entry x (Some a)) e).1)
+  one_unmarked node i x a e = none-some a (ap (λ (r : Record). r.unknown) (only_get (entry node None) i (entry x (Some a)) e).1)
 
   none_unmarked : Unmarked []
-  none_unmarked i node a e = none_some _ e
+  none_unmarked i node a e = none-some _ e
 
   laid_unmarked : (n : ℕ) (t : Tree) → Unmarked (operands names n t) → Unmarked (laid names n None t)
   laid_unmarked n t h = join_unmarked (operands names n t) (entry (node_of names n t) None ∷ []) h (one_unmarked (node_of names n t))
@@ -82,14 +74,14 @@ module _ (names : ℕ → Node) where
     pub at_root : n + r ≡ root_at (n + nodes before) equation.right
 
   pub located : (n : ℕ) (S : System) (a r : ℕ) (node : Node) → slice_get (laid_all names n S) r ≡ Some (entry node (Some a)) → Located n S a r
-  located n [] a r node e = absurd (none_some _ e)
+  located n [] a r node e = absurd (none-some _ e)
   located n (d ∷ S) a r node e = go (split_get (laid names n (Some d.left) d.right) (laid_all names (n + nodes_in d.right) S) r _ e) (located (n + nodes_in d.right) S a)
     where
       here : (slice_get (operands names n d.right) r ≡ Some (entry node (Some a))) ⊎ ((q : ℕ) × (r ≡ length (operands names n d.right) + q) × (slice_get (entry (node_of names n d.right) (Some d.left) ∷ []) q ≡ Some (entry node (Some a)))) → Located n (d ∷ S) a r
       here (inl w) = absurd (unmarked n d.right r node a w)
       here (inr w) =
           let own = only_get (entry (node_of names n d.right) (Some d.left)) w.0 (entry node (Some a)) w.2 in
-          let same : a ≡ d.left = some_some a d.left (ap (λ (x : Record). x.unknown) (sym own.1)) in
+          let same : a ≡ d.left = same_Some a d.left (ap (λ (x : Record). x.unknown) (sym own.1)) in
           record { before = []; equation = d; after = S; stands = refl; letter = same; at_root = omega (arith, w.1, own.0, operands_length names n d.right) }
 
       go : (slice_get (laid names n (Some d.left) d.right) r ≡ Some (entry node (Some a))) ⊎ ((q : ℕ) × (r ≡ length (laid names n (Some d.left) d.right) + q) × (slice_get (laid_all names (n + nodes_in d.right) S) q ≡ Some (entry node (Some a))))

@@ -1,5 +1,6 @@
 -- The products among the records are the product signs of the text.
 use Rattle.std.proofs.Common.{◌≡◌, ℕ, ◌+◌, cond, List, [], ◌∷◌, ◌++◌, Some, None, Option, sym, refl, ap, ◌∙◌, subst, arith}
+use Rattle.std.proofs.lemmas.List.Sums.{sum_by-append}
 use Rattle.systems.specs.Trees as Trees
 use Rattle.systems.specs.Trees.{Tree, System}
 use Rattle.tokens.specs.declared.token.Group.TheVariants.{Round, Square}
@@ -20,8 +21,7 @@ use Rattle.records.specs.Layout.{entry, node_of, operands, laid, laid_all, root,
 use Rattle.records.specs.Reading.{is_product, products}
 
 products-++ : (a b : List Record) → products (a ++ b) ≡ products a + products b
-products-++ [] b = omega arith
-products-++ (r ∷ a) b = omega (arith, products-++ a b)
+products-++ a b = sum_by-append (λ r. cond (is_product r.node) 1 0) a b
 
 -- ---- the products of a tree
 

@@ -1,17 +1,17 @@
 -- The layout of a solvable system represents it.
-use Rattle.std.proofs.Common.{◌≡◌, ℕ, ◌+◌, cond, List, [], ◌∷◌, ◌++◌, length, Some, None, Option, sym, refl, ap, ◌∙◌, subst, inl, inr, append_assoc, arith, length-append, eq-eqb, ne_eqb}
+use Rattle.std.proofs.Common.{◌≡◌, ℕ, ◌+◌, ◌-◌, ◌<◌, cond, List, [], ◌∷◌, ◌++◌, length, Some, None, Option, sym, refl, ap, ◌∙◌, subst, inl, inr, append_assoc, arith, length-append, eq-eqb, ne_eqb}
 use Rattle.std.specs.Prelude.{slice_get}
 use Rattle.systems.specs.Solving.{Solvable}
 use Rattle.systems.specs.Trees as Trees
-use Rattle.systems.specs.Trees.{Tree, Equation, System, UnknownIn, UnknownOf, EquationOf}
-use Rattle.systems.proofs.Standing.{placed, found}
+use Rattle.systems.specs.Trees.{Tree, Equation, System, UnknownIn, UnknownOf}
+use Rattle.systems.proofs.Standing.{placed, found, is_equation}
 use Rattle.reader.specs.Nodes.{nodes_in, nodes}
 use Rattle.records.specs.declared.record.Node.{Node}
 use Rattle.records.specs.declared.record.Node.TheVariants as node
 use Rattle.records.specs.declared.record.Record.{Record}
 use Rattle.records.specs.Layout.{entry, root_at, node_of, laid, laid_all, root, layout}
 use Rattle.records.specs.Representing.{NodeAt, RootOf, StandsFor, Represents}
-use Rattle.records.proofs.Laying.{some_nodes, laid_length, laid_all_length}
+use Rattle.records.proofs.Laying.{some_nodes, laid_length, laid_all_length, laid_split}
 use Rattle.records.proofs.Lookups.{own_at, located}
 
 -- ---- a tree among records
@@ -44,37 +44,28 @@ module _ (roots : ℕ → ℕ) (rs : List Record) where
     split = split ∙ simp append_assoc;
   }
 
+  -- an operator that stands behind its two operands
+  pair : (op : ℕ → ℕ → Node) (n : ℕ) (s t : Tree) → NodeAt rs (n + (nodes_in s + nodes_in t + 1) - 1) (op (root_at n s) (root_at (n + nodes_in s) t))
+      → StandsFor rs (root_at n s) s → StandsFor rs (root_at (n + nodes_in s) t) t
+      → (j : ℕ) × (k : ℕ) × NodeAt rs (n + (nodes_in s + nodes_in t + 1) - 1) (op j k) × (j < n + (nodes_in s + nodes_in t + 1) - 1) × (k < n + (nodes_in s + nodes_in t + 1) - 1) × StandsFor rs j s × StandsFor rs k t
+  pair op n s t here left right = (root_at n s, root_at (n + nodes_in s) t, here, omega (arith, some_nodes s, some_nodes t), omega (arith, some_nodes s, some_nodes t), left, right)
+
   stands : (t : Tree) (n : ℕ) (of : Option ℕ) → Within n of t → ((a : ℕ) → UnknownIn a t → RootOf rs a (roots a)) → StandsFor rs (root_at n t) t
   stands (Trees.number k) n of w h = own n of (Trees.number k) w
   stands (Trees.unknown a) n of w h = (roots a, own n of (Trees.unknown a) w, h a refl)
   stands (Trees.input x) n of w h = own n of (Trees.input x) w
-  stands (Trees.sum s t) n of w h = (
-    root_at n s,
-    root_at (n + nodes_in s) t,
-    own n of (Trees.sum s t) w,
-    omega (arith, some_nodes s, some_nodes t),
-    omega (arith, some_nodes s, some_nodes t),
-    stands s n None (first n s t w.pre w.post _ w.offset w.split) (λ a k. h a (inl k)),
-    stands t (n + nodes_in s) None (second n s t w.pre w.post _ w.offset w.split) (λ a k. h a (inr k)),
-  )
-  stands (Trees.difference s t) n of w h = (
-    root_at n s,
-    root_at (n + nodes_in s) t,
-    own n of (Trees.difference s t) w,
-    omega (arith, some_nodes s, some_nodes t),
-    omega (arith, some_nodes s, some_nodes t),
-    stands s n None (first n s t w.pre w.post _ w.offset w.split) (λ a k. h a (inl k)),
-    stands t (n + nodes_in s) None (second n s t w.pre w.post _ w.offset w.split) (λ a k. h a (inr k)),
-  )
-  stands (Trees.product s t) n of w h = (
-    root_at n s,
-    root_at (n + nodes_in s) t,
-    own n of (Trees.product s t) w,
-    omega (arith, some_nodes s, some_nodes t),
-    omega (arith, some_nodes s, some_nodes t),
-    stands s n None (first n s t w.pre w.post _ w.offset w.split) (λ a k. h a (inl k)),
-    stands t (n + nodes_in s) None (second n s t w.pre w.post _ w.offset w.split) (λ a k. h a (inr k)),
-  )
+  stands (Trees.sum s t) n of w h =
+      pair node.Sum n s t (own n of (Trees.sum s t) w)
+      (stands s n None (first n s t w.pre w.post _ w.offset w.split) (λ a k. h a (inl k)))
+      (stands t (n + nodes_in s) None (second n s t w.pre w.post _ w.offset w.split) (λ a k. h a (inr k)))
+  stands (Trees.difference s t) n of w h =
+      pair node.Difference n s t (own n of (Trees.difference s t) w)
+      (stands s n None (first n s t w.pre w.post _ w.offset w.split) (λ a k. h a (inl k)))
+      (stands t (n + nodes_in s) None (second n s t w.pre w.post _ w.offset w.split) (λ a k. h a (inr k)))
+  stands (Trees.product s t) n of w h =
+      pair node.Product n s t (own n of (Trees.product s t) w)
+      (stands s n None (first n s t w.pre w.post _ w.offset w.split) (λ a k. h a (inl k)))
+      (stands t (n + nodes_in s) None (second n s t w.pre w.post _ w.offset w.split) (λ a k. h a (inr k)))
   stands (Trees.bracket s) n of w h = (
     root_at n s,
     own n of (Trees.bracket s) w,
@@ -84,13 +75,6 @@ module _ (roots : ℕ → ℕ) (rs : List Record) where
 
 -- ---- equations
 
-laid_split : (names : ℕ → Node) (n : ℕ) (S R : System) → laid_all names n (S ++ R) ≡ laid_all names n S ++ laid_all names (n + nodes S) R
-laid_split names n [] R = ap (λ m. laid_all names m R) (omega arith)
-laid_split names n (e ∷ S) R =
-    ap (λ l. laid names n (Some e.left) e.right ++ l) (laid_split names (n + nodes_in e.right) S R)
-    ∙ sym (append_assoc (laid names n (Some e.left) e.right) _ _)
-    ∙ ap (λ m. laid_all names n (e ∷ S) ++ laid_all names m R) (omega arith)
-
 -- the root of an equation whose unknown has none before
 root_found : (n : ℕ) (before after : System) (e : Equation) → ¬ (UnknownOf e.left before) → root n (before ++ (e ∷ after)) e.left ≡ root_at (n + nodes before) e.right
 root_found n [] after e new = ap (λ v. cond v (root_at n e.right) (root (n + nodes_in e.right) after e.left)) (eq-eqb e.left e.left refl) ∙ ap (λ m. root_at m e.right) (omega arith)
@@ -98,10 +82,7 @@ root_found n (d ∷ before) after e new =
     ap (λ v. cond v (root_at n d.right) (root (n + nodes_in d.right) (before ++ (e ∷ after)) e.left)) (ne_eqb d.left e.left (λ k. new (inl (sym k))))
     ∙ root_found (n + nodes_in d.right) before after e (λ k. new (inr k)) ∙ ap (λ m. root_at m e.right) (omega arith)
 
-in_middle : (before after : System) (e : Equation) → EquationOf e (before ++ (e ∷ after))
-in_middle [] after e = inl refl
-in_middle (d ∷ before) after e = inr (in_middle before after e)
-
+-- its unknown
 named_in : (before after : System) (e : Equation) (a : ℕ) → a ≡ e.left → UnknownOf a (before ++ (e ∷ after))
 named_in [] after e a h = inl h
 named_in (d ∷ before) after e a h = inr (named_in before after e a h)
@@ -136,7 +117,7 @@ module _ (S : System) (h : Solvable S) where
     root_at (nodes before) e.right,
     marked before after e w,
     stands (root 0 S) (layout S) e.right (nodes before) (Some e.left) (standing before after e w)
-        (λ a k. rooted a (h.complete e (subst (EquationOf e) (sym w) (in_middle before after e)) a k)),
+        (λ a k. rooted a (h.complete e (is_equation before after e w) a k)),
   )
 
   -- a record that is told as a right side is the root of its unknown

@@ -1,6 +1,6 @@
 -- What stands on a sheet, push by push.
-use Rattle.std.proofs.Common.{◌≡◌, ℕ, suc, ◌+◌, ◌-◌, ◌<◌, ◌≤◌, cond, List, [], ◌∷◌, ◌++◌, length, get_or, drop, set, Some, None, Option as Opt, sym, refl, ap, ◌∙◌, subst, append_assoc, add-one, arith, length-append, drop-cons, lt-ltb}
-use lib.Seq.{get_or-append_seam, set-append_seam}
+use Rattle.std.proofs.Common.{◌≡◌, ℕ, ◌+◌, ◌-◌, ◌<◌, ◌≤◌, cond, List, [], ◌∷◌, ◌++◌, length, get_or, set, Some, None, Option as Opt, sym, refl, ap, ◌∙◌, subst, append_assoc, arith, length-append, lt-ltb}
+use Rattle.std.proofs.Math.Seq.{get_or-append_seam, set-append_seam}
 use Rattle.systems.specs.Trees as Trees
 use Rattle.systems.specs.Trees.{Tree}
 use Rattle.tokens.specs.declared.token.Group.{Group}
@@ -11,11 +11,11 @@ use Rattle.reader.proofs.Machine.{Pre, p_none, p_plus, p_minus, Mul, m_none, m_s
 use Rattle.records.specs.declared.record.Node.{Node}
 use Rattle.records.specs.declared.record.Node.TheVariants as node
 use Rattle.records.specs.declared.record.Record.{Record}
-use Rattle.records.specs.declared.writer.Pending.{Pending}
-use Rattle.records.specs.declared.writer.Pending.TheVariants.{Nothing, Plus, Minus}
 use Rattle.records.specs.declared.writer.Sheet.{Sheet}
+use Rattle.records.specs.declared.writer.Sign.{Sign}
+use Rattle.records.specs.declared.writer.Sign.TheVariants.{Plus, Minus}
 use Rattle.records.specs.Layout.{entry, root_at, node_of, operands, laid}
-use Rattle.records.specs.Inner.Writing.{last_of, pushed, multiplied, added, bracketed, owned, blank, finished}
+use Rattle.records.specs.Inner.Writing.{last_of, pushed, multiplied, added, bracketed, owned, blank, finished, sheet_of}
 use Rattle.records.proofs.Laying.{with_tree, with_length, two_trees, one_tree}
 
 -- ---- what waits in a group, and the records of it
@@ -30,10 +30,10 @@ mul_out a m_none = a
 mul_out a (m_star t) = with_tree a (term_tree t)
 
 -- the sum before a term, if one waits
-abbrev pub PreIs : List Record → Pre → Pending → Type 0
-PreIs a p_none x = x ≡ Nothing
-PreIs a (p_plus s) x = x ≡ Plus (length (with_tree a (sum_tree s)) - 1)
-PreIs a (p_minus s) x = x ≡ Minus (length (with_tree a (sum_tree s)) - 1)
+abbrev pub PreIs : List Record → Pre → Opt (Sign × ℕ) → Type 0
+PreIs a p_none x = x ≡ None
+PreIs a (p_plus s) x = x ≡ Some (Plus, length (with_tree a (sum_tree s)) - 1)
+PreIs a (p_minus s) x = x ≡ Some (Minus, length (with_tree a (sum_tree s)) - 1)
 
 abbrev pub pre_out : List Record → Pre → List Record
 pre_out a p_none = a
@@ -42,99 +42,67 @@ pre_out a (p_minus s) = with_tree a (sum_tree s)
 
 -- ---- the sheet
 
--- these records are written, over those that were lent
-pub record SheetIs (lent a : List Record) (s : Sheet) : Type 0 where
-  pub records : s.records ≡ a ++ drop (length a) lent
-  pub count : s.count ≡ length a
+-- these records are written
+abbrev pub SheetIs : List Record → Sheet → Type 0
+SheetIs a s = s.records.items ≡ a
 
-module _ (lent : List Record) (wide : length lent ≡ 64) where
-  pub pushed_is : (a : List Record) (s : Sheet) (node : Node) → SheetIs lent a s → length a < 64 → SheetIs lent (a ++ (entry node None ∷ [])) (pushed s node)
-  pushed_is a s node h room = subst (SheetIs lent (a ++ (entry node None ∷ []))) (sym pushes) (record { records = written; count = omega (arith, h.count, longer) })
-    where
-      longer : length (a ++ (entry node None ∷ [])) ≡ length a + 1
-      longer = length-append a (entry node None ∷ [])
+pub pushed_is : (a : List Record) (s : Sheet) (node : Node) → SheetIs a s → length a < 64 → SheetIs (a ++ (entry node None ∷ [])) (pushed s node)
+pushed_is a s node h room =
+    ap (λ v. (cond v (sheet_of (s.records.items ++ (entry node None ∷ []))) s).records.items) (lt-ltb (length s.records.items) 64 (omega (arith, ap length h)))
+    ∙ ap (λ l. l ++ (entry node None ∷ [])) h
 
-      pushes : pushed s node ≡ record { records = set s.records s.count (entry node None); count = s.count + 1 }
-      pushes = ap (λ v. cond v (record { records = set s.records s.count (entry node None); count = s.count + 1 }) s) (lt-ltb s.count 64 (omega (arith, h.count)))
+pub last_is : (a : List Record) (s : Sheet) → SheetIs a s → last_of s ≡ length a - 1
+last_is a s h = ap (λ l. length l - 1) h
 
-      written : set s.records s.count (entry node None) ≡ (a ++ (entry node None ∷ [])) ++ drop (length (a ++ (entry node None ∷ []))) lent
-      written =
-          (λ i. set (h.records i) (h.count i) (entry node None))
-          ∙ ap (λ l. set (a ++ l) (length a) (entry node None)) (drop-cons lent (length a) blank (omega (arith, wide)))
-          ∙ set-append_seam a (get_or lent (length a) blank) (drop (suc (length a)) lent) (entry node None)
-          ∙ sym (append_assoc a (entry node None ∷ []) _)
-          ∙ ap (λ n. (a ++ (entry node None ∷ [])) ++ drop n lent) (sym (longer ∙ add-one (length a)))
+-- an operator behind its operands
+pub operator_is : (op : ℕ → ℕ → Node) (a : List Record) (t u : Tree) (s : Sheet) (left : ℕ) → left ≡ length (with_tree a t) - 1 → SheetIs (with_tree (with_tree a t) u) s
+    → length a + nodes_in t + nodes_in u < 64
+    → SheetIs (a ++ ((laid node.Name (length a) None t ++ laid node.Name (length a + nodes_in t) None u) ++ (entry (op (root_at (length a) t) (root_at (length a + nodes_in t) u)) None ∷ []))) (pushed s (op left (last_of s)))
+operator_is op a t u s left e h room =
+    subst (λ (l : List Record). SheetIs l (pushed s (op left (last_of s)))) (two_trees op a t u)
+    (subst (λ (x : Node). SheetIs (with_tree (with_tree a t) u ++ (entry x None ∷ [])) (pushed s (op left (last_of s))))
+    (λ i. op (e i) (last_is (with_tree (with_tree a t) u) s h i))
+    (pushed_is (with_tree (with_tree a t) u) s (op left (last_of s)) h (omega (arith, with_length (with_tree a t) u, with_length a t))))
 
-  pub last_is : (a : List Record) (s : Sheet) → SheetIs lent a s → last_of s ≡ length a - 1
-  last_is a s h = ap (λ n. n - 1) h.count
+-- ---- what a factor, a term, a sum and a right side complete
 
-  -- an operator behind its operands
-  pub operator_is : (op : ℕ → ℕ → Node) (a : List Record) (t u : Tree) (s : Sheet) (left : ℕ) → left ≡ length (with_tree a t) - 1 → SheetIs lent (with_tree (with_tree a t) u) s
-      → length a + nodes_in t + nodes_in u < 64
-      → SheetIs lent (a ++ ((laid node.Name (length a) None t ++ laid node.Name (length a + nodes_in t) None u) ++ (entry (op (root_at (length a) t) (root_at (length a + nodes_in t) u)) None ∷ []))) (pushed s (op left (last_of s)))
-  operator_is op a t u s left e h room =
-      subst (λ (l : List Record). SheetIs lent l (pushed s (op left (last_of s)))) (two_trees op a t u)
-      (subst (λ (x : Node). SheetIs lent (with_tree (with_tree a t) u ++ (entry x None ∷ [])) (pushed s (op left (last_of s))))
-      (λ i. op (e i) (last_is (with_tree (with_tree a t) u) s h i))
-      (pushed_is (with_tree (with_tree a t) u) s (op left (last_of s)) h (omega (arith, with_length (with_tree a t) u, with_length a t))))
+pub multiplied_is : (a : List Record) (m : Mul) (f : Factor) (s : Sheet) (x : Opt ℕ) → MulIs a m x → SheetIs (with_tree (mul_out a m) (factor_tree f)) s
+    → length (with_tree a (term_tree (with_factor m f))) ≤ 64 → SheetIs (with_tree a (term_tree (with_factor m f))) (multiplied s x)
+multiplied_is a m_none f s x e h room = subst (λ (y : Opt ℕ). SheetIs (with_tree a (factor_tree f)) (multiplied s y)) (sym e) h
+multiplied_is a (m_star t) f s x e h room =
+    subst (λ (y : Opt ℕ). SheetIs (with_tree a (Trees.product (term_tree t) (factor_tree f))) (multiplied s y)) (sym e)
+    (operator_is node.Product a (term_tree t) (factor_tree f) s _ refl h (omega (arith, with_length a (Trees.product (term_tree t) (factor_tree f)))))
 
-  -- ---- what a factor, a term, a sum and a right side complete
+pub added_is : (a : List Record) (p : Pre) (t : Term) (s : Sheet) (x : Opt (Sign × ℕ)) → PreIs a p x → SheetIs (with_tree (pre_out a p) (term_tree t)) s
+    → length (with_tree a (sum_tree (with_term p t))) ≤ 64 → SheetIs (with_tree a (sum_tree (with_term p t))) (added s x)
+added_is a p_none t s x e h room = subst (λ (y : Opt (Sign × ℕ)). SheetIs (with_tree a (term_tree t)) (added s y)) (sym e) h
+added_is a (p_plus u) t s x e h room =
+    subst (λ (y : Opt (Sign × ℕ)). SheetIs (with_tree a (Trees.sum (sum_tree u) (term_tree t))) (added s y)) (sym e)
+    (operator_is node.Sum a (sum_tree u) (term_tree t) s _ refl h (omega (arith, with_length a (Trees.sum (sum_tree u) (term_tree t)))))
+added_is a (p_minus u) t s x e h room =
+    subst (λ (y : Opt (Sign × ℕ)). SheetIs (with_tree a (Trees.difference (sum_tree u) (term_tree t))) (added s y)) (sym e)
+    (operator_is node.Difference a (sum_tree u) (term_tree t) s _ refl h (omega (arith, with_length a (Trees.difference (sum_tree u) (term_tree t)))))
 
-  pub multiplied_is : (a : List Record) (m : Mul) (f : Factor) (s : Sheet) (x : Opt ℕ) → MulIs a m x → SheetIs lent (with_tree (mul_out a m) (factor_tree f)) s
-      → length (with_tree a (term_tree (with_factor m f))) ≤ 64 → SheetIs lent (with_tree a (term_tree (with_factor m f))) (multiplied s x)
-  multiplied_is a m_none f s x e h room = subst (λ (y : Opt ℕ). SheetIs lent (with_tree a (factor_tree f)) (multiplied s y)) (sym e) h
-  multiplied_is a (m_star t) f s x e h room =
-      subst (λ (y : Opt ℕ). SheetIs lent (with_tree a (Trees.product (term_tree t) (factor_tree f))) (multiplied s y)) (sym e)
-      (operator_is node.Product a (term_tree t) (factor_tree f) s _ refl h (omega (arith, with_length a (Trees.product (term_tree t) (factor_tree f)))))
+pub bracketed_is : (a : List Record) (g : Group) (x : Sum) (s : Sheet) → SheetIs (with_tree a (sum_tree x)) s
+    → length (with_tree a (factor_tree (f_group g x))) ≤ 64 → SheetIs (with_tree a (factor_tree (f_group g x))) (bracketed s g)
+bracketed_is a Round x s h room = h
+bracketed_is a Square x s h room =
+    subst (λ l. SheetIs l (pushed s (node.Bracket (last_of s)))) (one_tree a (sum_tree x))
+    (subst (λ (n : ℕ). SheetIs (with_tree a (sum_tree x) ++ (entry (node.Bracket n) None ∷ [])) (pushed s (node.Bracket (last_of s)))) (last_is (with_tree a (sum_tree x)) s h)
+    (pushed_is (with_tree a (sum_tree x)) s (node.Bracket (last_of s)) h (omega (arith, with_length a (Trees.bracket (sum_tree x)), with_length a (sum_tree x)))))
 
-  pub added_is : (a : List Record) (p : Pre) (t : Term) (s : Sheet) (x : Pending) → PreIs a p x → SheetIs lent (with_tree (pre_out a p) (term_tree t)) s
-      → length (with_tree a (sum_tree (with_term p t))) ≤ 64 → SheetIs lent (with_tree a (sum_tree (with_term p t))) (added s x)
-  added_is a p_none t s x e h room = subst (λ (y : Pending). SheetIs lent (with_tree a (term_tree t)) (added s y)) (sym e) h
-  added_is a (p_plus u) t s x e h room =
-      subst (λ (y : Pending). SheetIs lent (with_tree a (Trees.sum (sum_tree u) (term_tree t))) (added s y)) (sym e)
-      (operator_is node.Sum a (sum_tree u) (term_tree t) s _ refl h (omega (arith, with_length a (Trees.sum (sum_tree u) (term_tree t)))))
-  added_is a (p_minus u) t s x e h room =
-      subst (λ (y : Pending). SheetIs lent (with_tree a (Trees.difference (sum_tree u) (term_tree t))) (added s y)) (sym e)
-      (operator_is node.Difference a (sum_tree u) (term_tree t) s _ refl h (omega (arith, with_length a (Trees.difference (sum_tree u) (term_tree t)))))
+-- the last record of a right side has its unknown
+pub finished_is : (a : List Record) (t : Tree) (c : ℕ) (s : Sheet) → SheetIs (with_tree a t) s → SheetIs (a ++ laid node.Name (length a) (Some c) t) (finished s c)
+finished_is a t c s h =
+    (λ i. set (apart i) (at_root i) (owned (root_is i) c))
+    ∙ set-append_seam (a ++ operands node.Name (length a) t) _ [] (entry (node_of node.Name (length a) t) (Some c))
+    ∙ append_assoc a (operands node.Name (length a) t) _
+  where
+    apart : s.records.items ≡ (a ++ operands node.Name (length a) t) ++ (entry (node_of node.Name (length a) t) None ∷ [])
+    apart = h ∙ sym (append_assoc a (operands node.Name (length a) t) _)
 
-  pub bracketed_is : (a : List Record) (g : Group) (x : Sum) (s : Sheet) → SheetIs lent (with_tree a (sum_tree x)) s
-      → length (with_tree a (factor_tree (f_group g x))) ≤ 64 → SheetIs lent (with_tree a (factor_tree (f_group g x))) (bracketed s g)
-  bracketed_is a Round x s h room = h
-  bracketed_is a Square x s h room =
-      subst (λ l. SheetIs lent l (pushed s (node.Bracket (last_of s)))) (one_tree a (sum_tree x))
-      (subst (λ (n : ℕ). SheetIs lent (with_tree a (sum_tree x) ++ (entry (node.Bracket n) None ∷ [])) (pushed s (node.Bracket (last_of s)))) (last_is (with_tree a (sum_tree x)) s h)
-      (pushed_is (with_tree a (sum_tree x)) s (node.Bracket (last_of s)) h (omega (arith, with_length a (Trees.bracket (sum_tree x)), with_length a (sum_tree x)))))
+    at_root : last_of s ≡ length (a ++ operands node.Name (length a) t)
+    at_root = omega (arith, ap length apart, length-append (a ++ operands node.Name (length a) t) (entry (node_of node.Name (length a) t) None ∷ []))
 
-  -- the last record of a right side has its unknown
-  pub finished_is : (a : List Record) (t : Tree) (c : ℕ) (s : Sheet) → SheetIs lent (with_tree a t) s → length (with_tree a t) ≤ 64
-      → SheetIs lent (a ++ laid node.Name (length a) (Some c) t) (finished s c)
-  finished_is a t c s h room = subst (SheetIs lent (a ++ laid node.Name (length a) (Some c) t)) (sym finishes) (record { records = written; count = h.count ∙ same_length })
-    where
-      same_length : length (with_tree a t) ≡ length (a ++ laid node.Name (length a) (Some c) t)
-      same_length = simp length-append
-
-      at_root : last_of s ≡ length (a ++ operands node.Name (length a) t)
-      at_root =
-          omega (
-            arith,
-            h.count,
-            length-append a (operands node.Name (length a) t),
-            length-append a (laid node.Name (length a) None t),
-            length-append (operands node.Name (length a) t) (entry (node_of node.Name (length a) t) None ∷ []),
-          )
-
-      apart : s.records ≡ (a ++ operands node.Name (length a) t) ++ (entry (node_of node.Name (length a) t) None ∷ drop (length (with_tree a t)) lent)
-      apart = h.records ∙ simp append_assoc
-
-      root_is : get_or s.records (last_of s) blank ≡ entry (node_of node.Name (length a) t) None
-      root_is = (λ i. get_or (apart i) (at_root i) blank) ∙ get_or-append_seam (a ++ operands node.Name (length a) t) _ _ blank
-
-      finishes : finished s c ≡ record { records = set s.records (last_of s) (owned (get_or s.records (last_of s) blank) c); count = s.count }
-      finishes = ap (λ v. cond v (record { records = set s.records (last_of s) (owned (get_or s.records (last_of s) blank) c); count = s.count }) s) (lt-ltb (last_of s) 64 (omega (arith, h.count)))
-
-      written : set s.records (last_of s) (owned (get_or s.records (last_of s) blank) c) ≡ (a ++ laid node.Name (length a) (Some c) t) ++ drop (length (a ++ laid node.Name (length a) (Some c) t)) lent
-      written =
-          (λ i. set (apart i) (at_root i) (owned (root_is i) c))
-          ∙ set-append_seam (a ++ operands node.Name (length a) t) _ _ (entry (node_of node.Name (length a) t) (Some c))
-          ∙ (λ i. (a ++ operands node.Name (length a) t) ++ (entry (node_of node.Name (length a) t) (Some c) ∷ drop (same_length i) lent))
-          ∙ simp append_assoc
+    root_is : get_or s.records.items (last_of s) blank ≡ entry (node_of node.Name (length a) t) None
+    root_is = (λ i. get_or (apart i) (at_root i) blank) ∙ get_or-append_seam (a ++ operands node.Name (length a) t) _ [] blank

@@ -1,4 +1,5 @@
 pub mod Layout
 pub mod Representing
 pub mod Reading
+pub mod Printing
 pub mod Inner

@@ -1,11 +1,11 @@
 -- What reading a text into records answers and leaves.
-use Rattle.std.specs.Prelude.{◌≡◌, ℕ, ◌+◌, Bool, true, false, cond, List, [], ◌∷◌, ◌++◌, length, drop, Ok, Err, Result}
+use Rattle.std.specs.Prelude.{◌≡◌, ℕ, Bool, true, false, List, ◌++◌, length, drop, count_by, Ok, Err, Result}
 use Rattle.systems.specs.Trees.{System}
 use Rattle.reader.specs.declared.fault.TextFault.{TextFault}
 use Rattle.reader.specs.Examining.{Accepts, Faulty, product_signs}
 use Rattle.reader.specs.Nodes.{nodes}
 use Rattle.records.specs.declared.record.Node.{Node}
-use Rattle.records.specs.declared.record.Node.TheVariants.{Number, Name, Unknown, Input, Sum, Difference, Product, Bracket}
+use Rattle.records.specs.declared.record.Node.TheVariants.{Product}
 use Rattle.records.specs.declared.record.Record.{Record}
 use Rattle.records.specs.Layout.{layout}
 use Rattle.records.specs.Representing.{Represents}
@@ -17,12 +17,12 @@ Reads bs lent left (Ok counts) = (S : System) × Accepts bs S × (counts ≡ (no
 Reads bs lent left (Err f) = Faulty bs f × (left ≡ lent)
 
 abbrev pub is_product : Node → Bool
-is_product = elim [ Number k ↦ false | Name a ↦ false | Unknown r ↦ false | Input x ↦ false | Sum j k ↦ false | Difference j k ↦ false | Product j k ↦ true | Bracket j ↦ false ]
+is_product (Product j k) = true
+is_product _ = false
 
 -- how many records are products
 abbrev pub products : List Record → ℕ
-products [] = 0
-products (r ∷ rs) = cond (is_product r.node) 1 0 + products rs
+products rs = count_by (λ r. is_product r.node) rs
 
 -- the records of an accepted text: one for each node, as many products as the text has product signs; they represent
 -- the system

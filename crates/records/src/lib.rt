@@ -5,5 +5,6 @@ mod reading;
 mod record;
 mod writer;
 
+pub use reader::MOST_NODES;
 pub use reading::read;
-pub use record::{MOST_NODES, Node, Record};
+pub use record::{Node, Record};

@@ -5,17 +5,17 @@ ghost use Rattle.records.specs.Inner.Writing.{Written, completed};
 ghost use Rattle.systems.specs.Trees.{System};
 ghost use Rattle.std.specs.Prelude.{◌≡◌, map};
 
-use super::record::{MOST_NODES, Node, Record};
+use super::record::{Node, Record};
 use super::writer::Writer;
-use reader::{TextFault, examine};
-use tokens::next_token;
+use reader::{MOST_NODES, TextFault, examine};
+use tokens::tokens;
 
 // The node of a name is completed with the record of its unknown's right side.
 fn complete_one(one: &mut Record, roots: &[usize; 256])
     ensures { one.new ≡ completed roots.now one.old }
 {
     if let Node::Name(letter) = one.node {
-        one.node = Node::Unknown(roots[letter as usize]);
+        one.node = Node::Unknown(roots[usize::from(letter)]);
     }
 }
 
@@ -29,14 +29,12 @@ fn complete(records: &mut [Record], roots: &[usize; 256])
 }
 
 // The records of a text, with names that are not completed yet.
-fn write(text: &[u8], records: [Record; MOST_NODES]) -> Writer
-    ensures { (S : System) → Accepts text.now S → Written S records result }
+fn write(text: &[u8]) -> Writer
+    ensures { (S : System) → Accepts text.now S → Written S result }
 {
-    let mut writer = Writer::new(records);
-    let mut rest = text;
-    while let Some(lexed) = next_token(rest) {
-        writer.take(lexed.token);
-        rest = lexed.rest;
+    let mut writer = Writer::new();
+    for (_, token) in tokens(text) {
+        writer.take(token);
     }
     writer
 }
@@ -45,13 +43,16 @@ fn write(text: &[u8], records: [Record; MOST_NODES]) -> Writer
 // that decides, before a record is written.
 // There is one record for each node, at most 64, and there are as many products as product signs; the records represent the text's
 // system.
+#[tactic(auto, using(crate::proofs::Laws::record_laws))]
 pub fn read(text: &[u8], records: &mut [Record; MOST_NODES]) -> Result<(usize, usize), TextFault>
     ensures answer { Reads text.now records.old records.new result }
     ensures laws { RecordLaws }
 {
     let counts = examine(text)?;
-    let writer = write(text, *records);
-    *records = writer.sheet.records;
-    complete(&mut records[0..writer.sheet.count], &writer.roots);
+    let writer = write(text);
+    let written = writer.sheet.records.as_slice();
+    let front = &mut records[..written.len()];
+    front.copy_from_slice(written);
+    complete(front, &writer.roots);
     Ok(counts)
 }

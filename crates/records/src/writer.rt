@@ -1,34 +1,30 @@
 // Writes the records of a text, token by token.
 ghost use Rattle.records.specs.Inner.Writing.{added, after, bracketed, closed, ended, finished, last_of, multiplied, nothing_written, opened, pushed, signed, starred, with_leaf, with_name, worth};
-ghost use Rattle.records.specs.declared.writer.Pending.TheVariants.{Minus, Plus};
 ghost use Rattle.tokens.specs.Lexing.{seen};
 ghost use Rattle.std.specs.Prelude.{◌≡◌};
 
-use super::record::{MOST_NODES, Node, Record};
+use super::record::{Node, Record};
+use arrayvec::ArrayVec;
+use reader::{MOST_GROUPS, MOST_NODES};
 use tokens::{Group, Token};
 
-// The most groups that a sign may lie in.
-const MOST_GROUPS: usize = 16;
-
-// The records written so far: the first `count`.
-#[derive(Clone, Copy)]
+// The records written so far.
+#[derive(Drop)]
 pub struct Sheet {
-    pub(super) records: [Record; MOST_NODES],
-    pub(super) count: usize,
+    pub(super) records: ArrayVec<Record, MOST_NODES>,
 }
 
-// A sum that waits for its next term, and its sign.
+// The sign between a sum and its next term.
 #[derive(Clone, Copy)]
-pub enum Pending {
-    Nothing,
-    Plus(usize),
-    Minus(usize),
+pub enum Sign {
+    Plus,
+    Minus,
 }
 
-// What waits in a group: a sum for its next term, and a product for its next factor.
-#[derive(Clone, Copy)]
+// What waits in a group: a sum and its sign for the next term, and a product for its next factor.
+#[derive(Clone, Copy, Default)]
 pub struct Frame {
-    sum: Pending,
+    sum: Option<(Sign, usize)>,
     product: Option<usize>,
 }
 
@@ -36,13 +32,11 @@ pub struct Frame {
 fn value(digits: &[u8]) -> u32
     ensures { result ≡ worth digits.now }
 {
-    let mut value: u32 = 0;
-    for digit in digits {
-        value = value
+    digits.iter().fold(0, |value: u32, digit| {
+        value
             .saturating_mul(10)
-            .saturating_add(digit.saturating_sub(b'0') as u32);
-    }
-    value
+            .saturating_add(u32::from(digit.saturating_sub(b'0')))
+    })
 }
 
 impl Sheet {
@@ -50,20 +44,17 @@ impl Sheet {
     fn last(&self) -> usize
         ensures { result ≡ last_of self.now }
     {
-        self.count.saturating_sub(1)
+        self.records.len().saturating_sub(1)
     }
 
     // One record more; an accepted text has room for all its nodes.
     fn push(&mut self, node: Node)
         ensures { self.new ≡ pushed self.old node }
     {
-        if self.count < MOST_NODES {
-            self.records[self.count] = Record {
-                node,
-                unknown: None,
-            };
-            self.count += 1;
-        }
+        let _ = self.records.try_push(Record {
+            node,
+            unknown: None,
+        });
     }
 
     // The product that waits for the factor just written, if any.
@@ -77,14 +68,14 @@ impl Sheet {
     }
 
     // The sum that waits for the term just written, if any.
-    fn add(&mut self, sum: Pending)
+    fn add(&mut self, sum: Option<(Sign, usize)>)
         ensures { self.new ≡ added self.old sum }
     {
         let right = self.last();
         match sum {
-            Pending::Nothing => {}
-            Pending::Plus(left) => self.push(Node::Sum(left, right)),
-            Pending::Minus(left) => self.push(Node::Difference(left, right)),
+            None => {}
+            Some((Sign::Plus, left)) => self.push(Node::Sum(left, right)),
+            Some((Sign::Minus, left)) => self.push(Node::Difference(left, right)),
         }
     }
 
@@ -102,41 +93,36 @@ impl Sheet {
     fn finish(&mut self, letter: u8)
         ensures { self.new ≡ finished self.old letter }
     {
-        let root = self.last();
-        if root < MOST_NODES {
-            self.records[root].unknown = Some(letter);
+        if let Some(root) = self.records.last_mut() {
+            root.unknown = Some(letter);
         }
     }
 }
 
 // What is written of a text so far.
-#[derive(Clone, Copy)]
+#[derive(Drop)]
 pub struct Writer {
     pub(super) sheet: Sheet,
     // the left capital of the equation that is being read; none between equations
     left: Option<u8>,
     // what waits in the innermost group, and in those around it, the outermost first
     frame: Frame,
-    outer: [Frame; MOST_GROUPS],
-    depth: usize,
+    outer: ArrayVec<Frame, MOST_GROUPS>,
     // the record of each unknown's right side, by the letter's byte
     pub(super) roots: [usize; 256],
 }
 
 impl Writer {
-    pub(super) fn new(records: [Record; MOST_NODES]) -> Writer
-        ensures { result ≡ nothing_written records }
+    pub(super) fn new() -> Writer
+        ensures { result ≡ nothing_written }
     {
-        let frame = Frame {
-            sum: Pending::Nothing,
-            product: None,
-        };
         Writer {
-            sheet: Sheet { records, count: 0 },
+            sheet: Sheet {
+                records: ArrayVec::new(),
+            },
             left: None,
-            frame,
-            outer: [frame; MOST_GROUPS],
-            depth: 0,
+            frame: Frame::default(),
+            outer: ArrayVec::new(),
             roots: [0; 256],
         }
     }
@@ -146,8 +132,8 @@ impl Writer {
         ensures { self.new ≡ with_leaf self.old node }
     {
         self.sheet.push(node);
-        self.sheet.multiply(self.frame.product);
-        self.frame.product = None;
+        let product = self.frame.product.take();
+        self.sheet.multiply(product);
     }
 
     // A capital: the left side of an equation, or a factor whose equation may be yet to come.
@@ -168,33 +154,20 @@ impl Writer {
         self.frame.product = Some(self.sheet.last());
     }
 
-    // The sign + behind a sum.
-    fn plus(&mut self)
-        ensures { self.new ≡ signed self.old Plus }
+    // The sign + or - behind a sum.
+    fn sign(&mut self, sign: Sign)
+        ensures { self.new ≡ signed self.old sign }
     {
         self.sheet.add(self.frame.sum);
-        self.frame.sum = Pending::Plus(self.sheet.last());
-    }
-
-    // The sign - behind a sum.
-    fn minus(&mut self)
-        ensures { self.new ≡ signed self.old Minus }
-    {
-        self.sheet.add(self.frame.sum);
-        self.frame.sum = Pending::Minus(self.sheet.last());
+        self.frame.sum = Some((sign, self.sheet.last()));
     }
 
     // An opening sign.
     fn open(&mut self)
         ensures { self.new ≡ opened self.old }
     {
-        if self.depth < MOST_GROUPS {
-            self.outer[self.depth] = self.frame;
-            self.depth += 1;
-            self.frame = Frame {
-                sum: Pending::Nothing,
-                product: None,
-            };
+        if self.outer.try_push(self.frame).is_ok() {
+            self.frame = Frame::default();
         }
     }
 
@@ -204,25 +177,23 @@ impl Writer {
     {
         self.sheet.add(self.frame.sum);
         self.sheet.bracket(group);
-        if self.depth > 0 && self.depth <= MOST_GROUPS {
-            self.depth -= 1;
-            self.frame = self.outer[self.depth];
+        if let Some(frame) = self.outer.pop() {
+            self.frame = frame;
         }
-        self.sheet.multiply(self.frame.product);
-        self.frame.product = None;
+        let product = self.frame.product.take();
+        self.sheet.multiply(product);
     }
 
     // The end of an equation.
     fn end(&mut self)
         ensures { self.new ≡ ended self.old }
     {
-        self.sheet.add(self.frame.sum);
-        if let Some(letter) = self.left {
+        let sum = self.frame.sum.take();
+        self.sheet.add(sum);
+        if let Some(letter) = self.left.take() {
             self.sheet.finish(letter);
-            self.roots[letter as usize] = self.sheet.last();
+            self.roots[usize::from(letter)] = self.sheet.last();
         }
-        self.frame.sum = Pending::Nothing;
-        self.left = None;
     }
 
     // Writes what a token completes.
@@ -233,8 +204,8 @@ impl Writer {
             Token::Number(digits) => self.leaf(Node::Number(value(digits))),
             Token::Capital(letter) => self.capital(letter),
             Token::Small(letter) => self.leaf(Node::Input(letter)),
-            Token::Plus => self.plus(),
-            Token::Minus => self.minus(),
+            Token::Plus => self.sign(Sign::Plus),
+            Token::Minus => self.sign(Sign::Minus),
             Token::Star => self.star(),
             Token::Open(_) => self.open(),
             Token::Close(group) => self.close(group),

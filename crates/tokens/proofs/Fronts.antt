@@ -1,8 +1,9 @@
 -- What a text begins with, byte by byte.
-use Rattle.std.proofs.Common.{◌≡◌, ℕ, ◌+◌, ◌-◌, ◌<◌, ◌≤◌, Bool, true, false, cond, ◌&&◌, ◌||◌, leb, List, [], ◌∷◌, ◌++◌, length, get_or, take, drop, sym, refl, ap, ◌∙◌, subst, add-one, arith, length-drop, take_all, drop-cons, ne_eqb, leb-true}
-use borrow.Author.Tests.{both_ways}
+use Rattle.std.proofs.Common.{◌≡◌, ℕ, ◌+◌, ◌-◌, ◌<◌, ◌≤◌, Bool, true, false, cond, ◌&&◌, ◌||◌, leb, List, [], ◌∷◌, ◌++◌, length, get_or, take, drop, sym, refl, ap, ◌∙◌, subst, one-add, arith, length-drop, take_all, drop-cons, ne_eqb, leb-true}
+use Rattle.std.proofs.lemmas.Bool.{both_ways}
 use Rattle.tokens.specs.Kinds.{digit, separator}
-use Rattle.tokens.specs.Inner.Fronts.{past_separators, run_length}
+use Rattle.std.specs.List.{prefix_len}
+use Rattle.tokens.specs.Inner.Fronts.{past_separators}
 use Rattle.tokens.specs.Tokens.{starts_digit, Every}
 
 -- ---- a text as its first byte and the rest
@@ -14,13 +15,6 @@ pub apart : (s : List ℕ) → 0 < length s → s ≡ get_or s 0 0 ∷ rest s
 apart s h = drop-cons s 0 0 h ∙ ap (λ (r : List ℕ). get_or s 0 0 ∷ r) (sym (take_all (length s - 1) (drop 1 s) (omega (arith, length-drop 1 s))))
 
 -- ---- separators
-
-pub none_separators : (s : List ℕ) → length s < 1 → s ≡ past_separators s
-none_separators [] h = refl
-none_separators (b ∷ bs) h = absurd (omega arith)
-
-pub more_separators : (s : List ℕ) → 0 < length s → separator (get_or s 0 0) ≡ true → past_separators s ≡ past_separators (rest s)
-more_separators s h e = ap past_separators (apart s h) ∙ ap (λ k. cond k (past_separators (rest s)) (get_or s 0 0 ∷ rest s)) e
 
 -- the separators that a text begins with
 abbrev pub gap : List ℕ → List ℕ
@@ -63,32 +57,22 @@ all_separators (b ∷ bs) h = go (separator b) refl h (all_separators bs)
 
 -- ---- runs of digits
 
-pub none_run : (s : List ℕ) → length s < 1 → run_length s ≡ 0
-none_run [] h = refl
-none_run (b ∷ bs) h = absurd (omega arith)
-
-pub more_run : (s : List ℕ) → 0 < length s → digit (get_or s 0 0) ≡ true → run_length s ≡ run_length (rest s) + 1
-more_run s h e = ap run_length (apart s h) ∙ ap (λ k. cond k (run_length (rest s) + 1) 0) e
-
-pub run_le : (s : List ℕ) → run_length s ≤ length s
-run_le [] = omega arith
-run_le (b ∷ bs) =
-    let h = run_le bs in
-    elim (digit b) as (λ v. cond v (run_length bs + 1) 0 ≤ length (b ∷ bs)) [ true ↦ omega arith | false ↦ omega arith ]
+pub more_run : (s : List ℕ) → 0 < length s → digit (get_or s 0 0) ≡ true → prefix_len digit s ≡ 1 + prefix_len digit (rest s)
+more_run s h e = ap (prefix_len digit) (apart s h) ∙ ap (λ k. cond k (1 + prefix_len digit (rest s)) 0) e
 
 -- a run is digits, and behind it stands none
-pub run_digits : (s : List ℕ) → Every digit (take (run_length s) s) × (starts_digit (drop (run_length s) s) ≡ false)
+pub run_digits : (s : List ℕ) → Every digit (take (prefix_len digit s) s) × (starts_digit (drop (prefix_len digit s) s) ≡ false)
 run_digits [] = (tt, refl)
 run_digits (b ∷ bs) = go (digit b) refl (run_digits bs)
   where
-    go : (v : Bool) → digit b ≡ v → Every digit (take (run_length bs) bs) × (starts_digit (drop (run_length bs) bs) ≡ false) → Every digit (take (cond v (run_length bs + 1) 0) (b ∷ bs)) × (starts_digit (drop (cond v (run_length bs + 1) 0) (b ∷ bs)) ≡ false)
-    go true e h = subst (λ (n : ℕ). Every digit (take n (b ∷ bs)) × (starts_digit (drop n (b ∷ bs)) ≡ false)) (sym (add-one (run_length bs))) ((e, h.0), h.1)
+    go : (v : Bool) → digit b ≡ v → Every digit (take (prefix_len digit bs) bs) × (starts_digit (drop (prefix_len digit bs) bs) ≡ false) → Every digit (take (cond v (1 + prefix_len digit bs) 0) (b ∷ bs)) × (starts_digit (drop (cond v (1 + prefix_len digit bs) 0) (b ∷ bs)) ≡ false)
+    go true e h = subst (λ (n : ℕ). Every digit (take n (b ∷ bs)) × (starts_digit (drop n (b ∷ bs)) ≡ false)) (sym (one-add (prefix_len digit bs))) ((e, h.0), h.1)
     go false e h = (tt, e)
 
-pub run_all : (ds bs : List ℕ) → Every digit ds → starts_digit bs ≡ false → run_length (ds ++ bs) ≡ length ds
+pub run_all : (ds bs : List ℕ) → Every digit ds → starts_digit bs ≡ false → prefix_len digit (ds ++ bs) ≡ length ds
 run_all [] [] h e = refl
-run_all [] (b ∷ bs) h e = ap (λ v. cond v (run_length bs + 1) 0) e
-run_all (d ∷ ds) bs h e = ap (λ v. cond v (run_length (ds ++ bs) + 1) 0) h.0 ∙ omega (arith, run_all ds bs h.1 e)
+run_all [] (b ∷ bs) h e = ap (λ v. cond v (1 + prefix_len digit bs) 0) e
+run_all (d ∷ ds) bs h e = ap (λ v. cond v (1 + prefix_len digit (ds ++ bs)) 0) h.0 ∙ omega (arith, run_all ds bs h.1 e)
 
 -- ---- a digit is no separator
 

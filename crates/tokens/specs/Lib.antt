@@ -1,4 +1,5 @@
 pub mod Kinds
 pub mod Tokens
 pub mod Lexing
+pub mod Listed
 pub mod Inner

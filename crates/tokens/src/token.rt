@@ -1,14 +1,15 @@
 // What a token is.
 
 // A pair of signs that groups a sum: round ones only group, square ones stand for the bracket of the sum.
-#[derive(Clone, Copy, PartialEq, Eq, Debug)]
+#[derive(Clone, Copy, PartialEq, Eq, Default, Debug)]
 pub enum Group {
+    #[default]
     Round,
     Square,
 }
 
 // A token. A number borrows its digits from the text, and letters are told by their bytes.
-#[derive(Clone, Copy)]
+#[derive(Clone, Copy, PartialEq, Eq, Debug)]
 pub enum Token<'a> {
     Number(&'a [u8]),
     Capital(u8),

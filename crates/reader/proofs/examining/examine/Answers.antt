@@ -1,62 +1,55 @@
-use Rattle.std.proofs.Common.{ℕ, [], Option as Opt, sym, ◌∙◌, subst, arith}
-use Rattle.tokens.proofs.Cutting.{fewer, within, none_left}
-use Rattle.tokens.proofs.Listing.{tokens_from, tokens_listed}
-use Rattle.reader.specs.Examining.{Examined, of_bytes}
-use Rattle.reader.proofs.Machine.{at}
-use Rattle.reader.proofs.Only.{text_laws}
-use Rattle.reader.proofs.Reading.{Stands, standing, stopped, turned, cut_short, finished, by_missing}
-use Rattle.reader.proofs.Worked.{worked_texts}
+use Rattle.std.proofs.Common.{◌≡◌, ℕ, false, Some, None, Ok, Err, Result, is_ok, Option, refl, sym, subst, rules}
+use Rattle.tokens.specs.Tokens.{Tokens}
+use Rattle.tokens.specs.Listed.{left_to_give, placed}
+use Rattle.reader.specs.declared.fault.Rule.{Rule}
+use Rattle.reader.specs.Examining.{fault, Faulty, Examined, product_signs, of_bytes}
+use Rattle.reader.specs.Inner.Progress.{after, breaks}
+use Rattle.reader.proofs.Reading.{standing, stopped, turned, cut_short, finished, by_missing}
 use Rattle.reader.proofs.examining.examine.Goals as goal
 
-pub returns-then-text-gt-MOST_BYTES : goal.returns-then-text-gt-MOST_BYTES
-returns-then-text-gt-MOST_BYTES c = record { answer = of_bytes (omega arith); laws = text_laws; examples = worked_texts }
+pub returns-then-text-gt-MOST_BYTES-clause-answer : goal.returns-then-text-gt-MOST_BYTES-clause-answer
+returns-then-text-gt-MOST_BYTES-clause-answer c = subst (Faulty c.args.text.now) (sym c.at.ensures) (of_bytes c.if-text-gt-MOST_BYTES.true)
 
-pub loop-lexed-init : goal.loop-lexed-init
-loop-lexed-init c = (at [], standing c.args.text.now c.new-progress.result (omega arith) c.new-progress.ensures)
+pub loop-place-init : goal.loop-place-init
+loop-place-init c =
+    let it = c.into_iter-place-iterator.result in
+    let listed : Tokens 0 c.args.text.now (left_to_give it) = search rules in
+    standing c.if-text-gt-MOST_BYTES.false listed c.new-progress.result c.new-progress.ensures
 
-pub overflow_sub-result : goal.overflow_sub-result
-overflow_sub-result c = omega (arith, c.loop-lexed.invariant.1.within, within c.loop-lexed.rest.now c.in-Some.lexed c.in-Some.ensures.answer)
+pub loop-place-preserved : goal.loop-place-preserved
+loop-place-preserved c =
+    let s = c.loop-place.progress in
+    let t = placed (c.in-Some.place, c.in-Some.token) in
+    let read : (breaks s t.kind ≡ None) × (c.read.new.self ≡ after s t.kind) = search rules in
+    turned c.loop-place.invariant t (left_to_give c.next.new.self) (search rules) read.0 c.read.new.self read.1
 
-pub returns-in-Some-broken_by : goal.returns-in-Some-broken_by
-returns-in-Some-broken_by c = record {
-  answer = stopped c.args.text.now c.loop-lexed.rest.now _ c.loop-lexed.progress c.loop-lexed.invariant.1 c.in-Some.lexed c.in-Some-broken_by.rule c.in-Some.ensures.answer
-      (sym c.broken_by.ensures ∙ c.in-Some-broken_by.is);
-  laws = text_laws;
-  examples = worked_texts;
-}
+refused : (r : Result (Unit {0}) Rule) → is_ok r ≡ false → (k : Rule) × (r ≡ Err k)
+refused (Ok x) e = absurd (cc)
+refused (Err k) e = (k, refl)
 
-pub loop-lexed-smaller : goal.loop-lexed-smaller
-loop-lexed-smaller c = fewer c.loop-lexed.rest.now c.in-Some.lexed c.in-Some.ensures.answer
+pub returns-in_err-map_err-clause-answer : goal.returns-in_err-map_err-clause-answer
+returns-in_err-map_err-clause-answer c =
+    let s = c.loop-place.progress in
+    let t = placed (c.in-Some.place, c.in-Some.token) in
+    let k = refused c.read.result (search rules) in
+    let broken : breaks s t.kind ≡ Some k.0 = search rules in
+    let answer : c.from_residual.result ≡ Err (fault k.0 c.in-Some.place) = search rules in
+    subst (Examined c.args.text.now) (sym answer) (stopped c.loop-place.invariant t (left_to_give c.next.new.self) (search rules) k.0 broken)
 
-pub loop-lexed-preserved : goal.loop-lexed-preserved
-loop-lexed-preserved c = (
-  _,
-  subst (Stands c.args.text.now c.in-Some.lexed.rest.now _) (sym c.take.ensures)
-      (turned c.args.text.now c.loop-lexed.rest.now _ c.loop-lexed.progress c.loop-lexed.invariant.1 c.in-Some.lexed c.in-Some.ensures.answer
-      (sym c.broken_by.ensures ∙ c.in_default-broken_by.is)),
-)
+pub returns-then-ne-clause-answer : goal.returns-then-ne-clause-answer
+returns-then-ne-clause-answer c =
+    subst (Faulty c.args.text.now) (sym c.at-then-ne.ensures) (cut_short c.loop-place.invariant (search rules) (λ e. search rules))
 
-pub returns-in_default-phase : goal.returns-in_default-phase
-returns-in_default-phase c = record {
-  answer = cut_short c.args.text.now c.loop-lexed.rest.now _ c.loop-lexed.progress c.loop-lexed.invariant.1 (none_left c.loop-lexed.rest.now c.in_default.ensures.answer) c.in_default-phase.not-Between;
-  laws = text_laws;
-  examples = worked_texts;
-}
+pub returns-in-Some-first_unknown-clause-answer : goal.returns-in-Some-first_unknown-clause-answer
+returns-in-Some-first_unknown-clause-answer c =
+    let s = c.loop-place.progress in
+    subst (Faulty c.args.text.now) (sym c.at-in-Some-first_unknown.ensures)
+    (subst (λ (o : Option ℕ). Examined c.args.text.now (by_missing s.nodes (product_signs c.args.text.now) o)) c.in-Some-first_unknown.is
+    (finished c.loop-place.invariant (search rules) (search rules) c.first_unknown.result c.first_unknown.ensures))
 
-pub returns-in-Some-first_unknown : goal.returns-in-Some-first_unknown
-returns-in-Some-first_unknown c = record {
-  answer = subst (λ (o : Opt ℕ). Examined c.args.text.now (by_missing c.loop-lexed.progress.nodes c.loop-lexed.progress.products o))
-      (sym (c.first_unknown.ensures (tokens_from 0 c.args.text.now) (tokens_listed 0 c.args.text.now)) ∙ c.in-Some-first_unknown.is)
-      (finished c.args.text.now c.loop-lexed.rest.now _ c.loop-lexed.progress c.loop-lexed.invariant.1 (none_left c.loop-lexed.rest.now c.in_default.ensures.answer) c.in-Between.is);
-  laws = text_laws;
-  examples = worked_texts;
-}
-
-pub returns-in-None : goal.returns-in-None
-returns-in-None c = record {
-  answer = subst (λ (o : Opt ℕ). Examined c.args.text.now (by_missing c.loop-lexed.progress.nodes c.loop-lexed.progress.products o))
-      (sym (c.first_unknown.ensures (tokens_from 0 c.args.text.now) (tokens_listed 0 c.args.text.now)) ∙ c.in-None.is)
-      (finished c.args.text.now c.loop-lexed.rest.now _ c.loop-lexed.progress c.loop-lexed.invariant.1 (none_left c.loop-lexed.rest.now c.in_default.ensures.answer) c.in-Between.is);
-  laws = text_laws;
-  examples = worked_texts;
-}
+pub returns-in-None-first_unknown-clause-answer : goal.returns-in-None-first_unknown-clause-answer
+returns-in-None-first_unknown-clause-answer c =
+    let s = c.loop-place.progress in
+    subst (λ (n : ℕ). Examined c.args.text.now (Ok (s.nodes, n))) (sym c.count_products.ensures)
+    (subst (λ (o : Option ℕ). Examined c.args.text.now (by_missing s.nodes (product_signs c.args.text.now) o)) c.in-None-first_unknown.is
+    (finished c.loop-place.invariant (search rules) (search rules) c.first_unknown.result c.first_unknown.ensures))

@@ -1,10 +1,6 @@
-use Rattle.std.proofs.Common.{length}
-use Rattle.reader.proofs.Machine.{State}
-use Rattle.reader.proofs.Reading.{Stands}
+use Rattle.tokens.specs.Listed.{left_to_give}
+use Rattle.reader.proofs.Reading.{Reads}
 use Rattle.reader.proofs.examining.examine.Given as goal
 
-abbrev pub invariant-loop-lexed : goal.invariant-loop-lexed
-invariant-loop-lexed l = (st : State) × Stands l.text l.rest st l.progress
-
-abbrev pub decreases-loop-lexed : goal.decreases-loop-lexed
-decreases-loop-lexed l = length l.rest
+abbrev pub invariant-loop-place : goal.invariant-loop-place
+invariant-loop-place l = Reads l.text (left_to_give l.place-iterator) l.progress

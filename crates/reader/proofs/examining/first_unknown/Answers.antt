@@ -1,31 +1,24 @@
-use Rattle.std.proofs.Common.{not, ap, ◌∙◌, arith}
-use Rattle.tokens.specs.Lexing.{seen}
-use Rattle.tokens.proofs.Cutting.{fewer, within}
-use Rattle.reader.proofs.Reading.{seeking, lacking, no_capital, found, passed, found_none}
+use Rattle.std.proofs.Common.{◌≡◌, ℕ, Option, Some, None, refl, sym, ap, ◌∙◌, rules}
+use borrow.Author.Tests.{tests}
+use Rattle.std.specs.Option.{option_map}
+use Rattle.std.proofs.lemmas.Iterator.Consumers.{YieldsList-from_first}
+use Rattle.std.proofs.lemmas.Iterator.Search.{find_from_yields_List}
+use Rattle.tokens.specs.Listed.{placed, left_to_give}
+use Rattle.tokens.specs.declared.token.Token.{Token as Lent}
+use Rattle.tokens.specs.Tokens.{Token}
+use Rattle.tokens.proofs.Listing.{one_list}
+use Rattle.reader.specs.Inner.Progress.{lacks, missing}
 use Rattle.reader.proofs.examining.first_unknown.Goals as goal
-use Rattle.reader.proofs.examining.first_unknown.Goals.{in-Capital+else-not-defined-letter, in_default-token}
 
-pub loop-lexed-init : goal.loop-lexed-init
-loop-lexed-init c = seeking c.args.defined c.args.text.now
-
-pub overflow_sub-result : goal.overflow_sub-result
-overflow_sub-result c = omega (arith, c.loop-lexed.invariant.within, within c.loop-lexed.rest.now c.in-Some.lexed c.in-Some.ensures.answer)
-
-pub returns-then-not-defined-letter : goal.returns-then-not-defined-letter
-returns-then-not-defined-letter c =
-    found c.args.defined c.args.text.now c.loop-lexed.rest.now c.in-Some.lexed c.in-Some.ensures.answer c.loop-lexed.invariant
-    (ap (λ t. lacking c.args.defined (seen t)) c.in-Capital.is ∙ ap not c.if-not-defined-letter.true)
-
-pub loop-lexed-smaller : goal.loop-lexed-smaller
-loop-lexed-smaller c = fewer c.loop-lexed.rest.now c.in-Some.lexed c.in-Some.ensures.answer
-
-pub loop-lexed-preserved : goal.loop-lexed-preserved
-loop-lexed-preserved c =
-    passed c.args.defined c.args.text.now c.loop-lexed.rest.now c.in-Some.lexed c.in-Some.ensures.answer c.loop-lexed.invariant
-    (elim c.match-lexed.branch [
-      | in-Capital+else-not-defined-letter w ↦ ap (λ t. lacking c.args.defined (seen t)) w.in-Capital.is ∙ ap not w.if-not-defined-letter.false
-      | in_default-token w ↦ no_capital c.args.defined c.in-Some.lexed.token w.in_default-token.not-Capital
-    ])
+places : (r : Option (ℕ × Lent)) → option_map (λ (t : Token). t.place) (option_map placed r) ≡ option_map (λ x. x.0) r
+places None = refl
+places (Some x) = refl
 
 pub returns : goal.returns
-returns c = found_none c.args.defined c.args.text.now c.loop-lexed.rest.now c.loop-lexed.invariant c.in_default.ensures.answer
+returns c = λ ts w.
+    let it = c.tokens.result in
+    let found = find_from_yields_List {v = placed} (λ (t : Token). lacks c.args.defined.now t.kind) c.find.new.self _ c.find.result c.find.ensures.ran
+    (YieldsList-from_first placed left_to_give (left_to_give it) refl) (λ x b q k. search (rules, tests)) in
+    let mapped : c.map.result ≡ option_map (λ x. x.0) c.find.result = search rules in
+    mapped ∙ sym (places c.find.result) ∙ ap (option_map (λ (t : Token). t.place)) found
+    ∙ ap (missing c.args.defined.now) (one_list.only 0 c.args.text.now (left_to_give it) ts c.tokens.ensures.listed w)

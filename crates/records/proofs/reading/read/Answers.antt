@@ -1,25 +1,16 @@
-use Rattle.std.proofs.Common.{◌≤◌, refl, arith, rules}
-use Rattle.std.proofs.lemmas.Result.{err_from_is_err_and}
-use Rattle.records.proofs.Completing.{completes}
-use Rattle.records.proofs.Laws.{record_laws}
+use Rattle.std.proofs.Common.{◌≡◌, ◌++◌, map, length, drop, ap, ◌∙◌}
+use Rattle.reader.specs.Nodes.{nodes}
+use Rattle.records.specs.Layout.{layout}
+use Rattle.records.specs.Inner.Writing.{completed}
+use Rattle.records.proofs.Completing.{completes, as_many}
 use Rattle.records.proofs.reading.read.Goals as goal
 
-pub returns-in_err-counts : goal.returns-in_err-counts
-returns-in_err-counts c =
-    let p = err_from_is_err_and c.from_residual.result c.from_residual.ensures.1 in
-    record { answer = rw (p.1, p.2) (c.in_err-counts.ensures.answer, refl); laws = record_laws }
-
-pub slice_bounds-complete-end : goal.slice_bounds-complete-end
-slice_bounds-complete-end c =
-    let S = c.in_ok-counts.ensures.answer.0 in
-    let h = c.in_ok-counts.ensures.answer.1 in
-    let few : c.write-writer.result.sheet.count ≤ 64 = omega (arith, (c.write-writer.ensures S h).count, c.examine.ensures.laws.few c.args.text.now S h) in
-    search rules
-
-pub returns : goal.returns
-returns c =
-    let read = c.in_ok-counts.ensures.answer in
-    record {
-      answer = (read.0, read.1, read.2, completes read.0 c.args.records.now c.write-writer.result c.complete.new.records (c.write-writer.ensures read.0 read.1) c.complete.ensures);
-      laws = record_laws;
-    }
+pub returns-clause-answer : goal.returns-clause-answer
+returns-clause-answer c =
+    let (S, accepted, counts) = c.in_ok-counts.ensures.answer in
+    let w = c.write-writer.result in
+    let written = c.write-writer.ensures S accepted in
+    let value = c.as_slice-written.ensures.value in
+    let front : c.complete.new.records ≡ layout S = c.complete.ensures ∙ ap (map (completed w.roots)) (c.copy_from_slice.ensures.after ∙ value) ∙ completes S w written in
+    let long : length c.as_slice-written.result.now ≡ nodes S = ap length value ∙ as_many S w written in
+    (S, accepted, counts, (λ i. front i ++ drop (long i) c.args.records.now))

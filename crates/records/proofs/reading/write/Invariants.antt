@@ -1,11 +1,9 @@
-use Rattle.std.proofs.Common.{length}
-use Rattle.systems.specs.Trees.{System}
-use Rattle.reader.specs.Examining.{Accepts}
-use Rattle.records.proofs.Going.{Going}
+use Rattle.std.proofs.Common.{◌≡◌, fold}
+use Rattle.tokens.specs.Listed.{left_to_give}
+use Rattle.reader.specs.Rules.{kinds}
+use Rattle.records.specs.Inner.Writing.{nothing_written, after}
 use Rattle.records.proofs.reading.write.Given as goal
 
-abbrev pub invariant-loop-lexed : goal.invariant-loop-lexed
-invariant-loop-lexed l = (S : System) → Accepts l.text S → Going l.text l.rest l.initial.writer.sheet.records l.writer
-
-abbrev pub decreases-loop-lexed : goal.decreases-loop-lexed
-decreases-loop-lexed l = length l.rest
+-- what the tokens that are left will add makes all that the tokens of the text write
+abbrev pub invariant-loop-token : goal.invariant-loop-token
+invariant-loop-token l = fold after l.writer (kinds (left_to_give l.token-iterator)) ≡ fold after nothing_written (kinds (left_to_give l.initial.token-iterator))

@@ -1,12 +1,9 @@
-use Rattle.std.proofs.Common.{sym, ◌∙◌, arith}
-use Rattle.records.proofs.Decimals.{one_digit, no_digit}
+use Rattle.std.proofs.Common.{◌≡◌, fold, ◌∙◌, rules, arith}
+use Rattle.std.proofs.iter.runs.Made.{chains}
+use Rattle.records.proofs.Decimals.{with_digit, folded}
 use Rattle.records.proofs.writer.value.Goals as goal
 
-pub loop-digit-preserved : goal.loop-digit-preserved
-loop-digit-preserved c = (
-  sym (one_digit c.args.digits.now c.loop-digit.digit-index c.loop-digit.value c.saturating_add-value.result (omega arith) (omega arith)) ∙ c.loop-digit.invariant.0,
-  c.saturating_add-value.type_inv,
-)
-
 pub returns : goal.returns
-returns c = sym (no_digit c.args.digits.now c.loop-digit.digit-index c.loop-digit.value (omega arith) c.loop-digit.invariant.1) ∙ c.loop-digit.invariant.0
+returns c =
+    let e : c.fold.result ≡ fold with_digit 0 c.args.digits.now = search (rules, chains) in
+    e ∙ folded 0 c.args.digits.now (omega arith)
