@@ -46,11 +46,11 @@ begin = record {
 
 -- ---- the scan, by its first token
 
-scan_by : (st : State) (t : Token) (ts : List Token) (o : Option Rule) → first (test st t.kind) rules ≡ o → scan st (t ∷ ts) ≡ elim o [ None ↦ scan (stepped st t.kind) ts | Some k ↦ stop k t.place ]
+pub scan_by : (st : State) (t : Token) (ts : List Token) (o : Option Rule) → first (test st t.kind) rules ≡ o → scan st (t ∷ ts) ≡ elim o [ None ↦ scan (stepped st t.kind) ts | Some k ↦ stop k t.place ]
 scan_by st t ts o e = ap {B = Scan} (λ (o : Option Rule). elim o [ None ↦ scan (stepped st t.kind) ts | Some k ↦ stop k t.place ]) e
 
 -- where no test fails, the machine steps
-tests_step : (st : State) (t : Kind) → first (test st t) rules ≡ None → step st t ≡ Some (stepped st t)
+pub tests_step : (st : State) (t : Kind) → first (test st t) rules ≡ None → step st t ≡ Some (stepped st t)
 tests_step st t e =
     let ok : Least (test st t) rules None = subst (Least (test st t) rules) e (least (test st t) rules ascending) in
     steps (step st t) st (ok NotAllowed (among_all NotAllowed))

@@ -1,8 +1,10 @@
 // Why a text is refused.
 ghost use Rattle.reader.specs.Examining.{fault};
-ghost use Rattle.reader.specs.Faults.{message, number_of, place_of};
+ghost use Rattle.reader.specs.Faults.{number_of, place_of};
+ghost use Rattle.rings.specs.Faults.{fault_text};
 ghost use Rattle.std.specs.Prelude.{◌≡◌, Some};
 
+use rings::write_fault;
 use std::error::Error;
 use std::fmt;
 
@@ -62,10 +64,10 @@ impl TextFault {
 }
 
 impl fmt::Display for TextFault {
-    ghost output = { λ fault. Some (message fault) };
+    ghost output = { λ fault. Some (fault_text (number_of fault) (place_of fault)) };
 
     fn fmt<W: fmt::Write>(&self, f: &mut fmt::Formatter<W>) -> fmt::Result {
-        write!(f, "fault {} at {}", self.number(), self.place)
+        write_fault(f, self.number(), self.place)
     }
 }
 

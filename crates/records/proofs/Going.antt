@@ -1,20 +1,19 @@
 -- What is written of the tokens of an accepted text.
-use Rattle.std.proofs.Common.{◌≡◌, ℕ, List, [], ◌∷◌, fold, sym, refl, ap, ◌∙◌, subst, Some, None, Option}
+use Rattle.std.proofs.Common.{◌≡◌, ℕ, List, [], ◌∷◌, fold, sym, refl, ◌∙◌, subst, Some, None, Option}
 use Rattle.systems.specs.Trees.{System}
 use Rattle.tokens.specs.Kinds.{digit}
 use Rattle.tokens.specs.Tokens.{Token, Tokens, ends, goes_on, Every}
 use Rattle.tokens.proofs.Listing.{only_tokens}
 use Rattle.reader.specs.declared.fault.Rule.{Rule}
-use Rattle.reader.specs.declared.fault.Rule.TheVariants.{NotAllowed}
 use Rattle.reader.specs.declared.progress.Progress.{Progress}
 use Rattle.reader.specs.Examining.{Accepts}
 use Rattle.reader.specs.Inner.Progress.{after as read_after, nothing_read}
 use Rattle.reader.specs.Rules.{kinds}
 use Rattle.reader.specs.Sorts.{digits_of}
-use Rattle.reader.proofs.Machine.{State, at, step}
-use Rattle.reader.proofs.Faults.{test, first, rules, stepped, steps, least, Least, ascending, among_all, Scan, stop, end, scan}
+use Rattle.reader.proofs.Machine.{State, at}
+use Rattle.reader.proofs.Faults.{test, first, rules, stepped, end, scan}
 use Rattle.reader.proofs.Follow.{Code, unbroken, follows, same_tests}
-use Rattle.reader.proofs.Reading.{begin, accepted_ends}
+use Rattle.reader.proofs.Reading.{begin, accepted_ends, scan_by, tests_step}
 use Rattle.reader.proofs.Signs.{Letters, all_letters, spelled_digits}
 use Rattle.records.specs.declared.writer.Writer.{Writer}
 use Rattle.records.specs.Inner.Writing.{nothing_written, after, Written}
@@ -37,17 +36,13 @@ writes_all (t ∷ ts) st s w fin l d c e h = go (first (test st t.kind) rules) r
     to : State
     to = stepped st t.kind
 
-    by : (o : Option Rule) → first (test st t.kind) rules ≡ o → scan st (t ∷ ts) ≡ elim o [ None ↦ scan to ts | Some k ↦ stop k t.place ]
-    by o w = ap {B = Scan} (λ (o : Option Rule). elim o [ None ↦ scan to ts | Some k ↦ stop k t.place ]) w
-
     go : (o : Option Rule) → first (test st t.kind) rules ≡ o → (Code to (read_after s t.kind) → scan to ts ≡ end fin → Writes to (after w t.kind) → Writes fin (fold after (after w t.kind) (kinds ts))) → Writes fin (fold after (after w t.kind) (kinds ts))
-    go (Some k) x more = let stops = by (Some k) x in absurd (cc (stops, e))
+    go (Some k) x more = let stops = scan_by st t ts (Some k) x in absurd (cc (stops, e))
     go None x more =
-        let ok : Least (test st t.kind) rules None = subst (Least (test st t.kind) rules) x (least (test st t.kind) rules ascending) in
-        let goes : step st t.kind ≡ Some to = steps (step st t.kind) st (ok NotAllowed (among_all NotAllowed)) in
+        let goes = tests_step st t.kind x in
         let whole = unbroken s t.kind (same_tests st s t.kind c ∙ x) in
         let next = follows st to s t.kind goes c whole l.0 in
-        more next (sym (by None x) ∙ e) (moves st to t.kind goes w s c whole d.0 (few to (read_after s t.kind) next) h)
+        more next (sym (scan_by st t ts None x) ∙ e) (moves st to t.kind goes w s c whole d.0 (few to (read_after s t.kind) next) h)
 
 -- all tokens of an accepted text
 pub writes_system : (text : List ℕ) (S : System) (h : Accepts text S) → Written S (fold after nothing_written (kinds h.tokens))

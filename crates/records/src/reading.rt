@@ -10,7 +10,8 @@ use super::writer::Writer;
 use reader::{MOST_NODES, TextFault, examine};
 use tokens::tokens;
 
-// The node of a name is completed with the record of its unknown's right side.
+// The node of a name is completed with the record of its unknown's right side. (One record by itself: with this in the loop below, the
+// loop's proof did not close.)
 fn complete_one(one: &mut Record, roots: &[usize; 256])
     ensures { one.new ≡ completed roots.now one.old }
 {

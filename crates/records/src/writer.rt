@@ -108,7 +108,7 @@ pub struct Writer {
     // what waits in the innermost group, and in those around it, the outermost first
     frame: Frame,
     outer: ArrayVec<Frame, MOST_GROUPS>,
-    // the record of each unknown's right side, by the letter's byte
+    // the record of each unknown's right side, by the letter's byte: a map of the library would need the heap
     pub(super) roots: [usize; 256],
 }
 

@@ -1,8 +1,7 @@
 -- The laws at all numbers, from the laws on codes.
 use Rattle.std.specs.Prelude.{◌≡◌, ℕ, ◌<◌, Ok, Err, nat_lt}
 use Rattle.std.proofs.Math.Path.{refl}
-use Rattle.std.proofs.Common.{sym, ap, ◌∙◌, arith}
-use borrow.Author.Tests.{lt-ltb, le-ltb}
+use Rattle.std.proofs.Common.{sym, ap, ◌∙◌, arith, lt-ltb, le-ltb}
 use Rattle.binary.proofs.Clips.{cut_below}
 use Rattle.rings.specs.declared.fault.RingFault.{RingFault}
 use Rattle.rings.specs.Model.{RingModel, Order, in_order, Laws, Lawful, code, size_of, one_of, sum, opposite, product}
