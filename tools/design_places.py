@@ -1,9 +1,10 @@
 #!/usr/bin/env python3
-"""Prints the places in crates/*/src that the pass on design looks at, point by point, and counts them.
+"""Prints the places in crates/*/src that the pass on design looks at, kind by kind, and counts them.
 
-    tools/design_places.py [POINT..]
+    tools/design_places.py [KIND..]
 
-Each point has patterns (lines of code that fit one are candidates) or a count of what stands more than once.
+The kinds are enums, twins, loops, by_hand, together, buffers, steps and proofs. Each has patterns (lines of code that fit one are
+candidates) or a count of what stands more than once.
 A candidate is judged by reading; docs/DESIGN-PASS.md says which of them are places.
 """
 import collections
@@ -13,11 +14,11 @@ import sys
 
 FILES = sorted(glob.glob("crates/*/src/*.rt"))
 LINES = {
-    1: r"^\s*(pub )?enum |-> u8|\bu8, usize\)|number: u8|: \[?bool|^\s+Nothing\b|return (Some|None)\(?0|left: u8",
-    3: r"\bwhile\b|\bloop\b|\bfor\b.* in .*\.\.|\+= 1;|\bcount\b.*saturating|len\(\) - ",
-    4: r"=> (true|false),|fn (number|place|print_\w+|told|answer|made|refusal)\b|Err\(\w+::Ring\(|return Err\(\w+::Memory|None => Err\(|Err\(fault\) =>",
-    6: r"\[\w+(<[^>]*>)?; ?(\w+|\d+)\]|\b(count|depth): usize|\[u8\]|\[u64\]|\(usize\)|usize, usize\)",
-    7: r"\bdyn\b|: fn\(|impl Fn|F: Fn|^\s*match \w|^\s*(over|print)_\w+\(&?rt",
+    "enums": r"^\s*(pub )?enum |-> u8|\bu8, usize\)|number: u8|: \[?bool|^\s+Nothing\b|return (Some|None)\(?0|left: u8",
+    "loops": r"\bwhile\b|\bloop\b|\bfor\b.* in .*\.\.|\+= 1;|\bcount\b.*saturating|len\(\) - ",
+    "by_hand": r"=> (true|false),|fn (number|place|print_\w+|told|answer|made|refusal)\b|Err\(\w+::Ring\(|return Err\(\w+::Memory|None => Err\(|Err\(fault\) =>",
+    "buffers": r"\[\w+(<[^>]*>)?; ?(\w+|\d+)\]|\b(count|depth): usize|\[u8\]|\[u64\]|\(usize\)|usize, usize\)",
+    "steps": r"\bdyn\b|: fn\(|impl Fn|F: Fn|^\s*match \w|^\s*(over|print)_\w+\(&?rt",
 }
 
 
@@ -28,15 +29,15 @@ def code():
                 yield name, number, line.rstrip("\n")
 
 
-def show(point, found):
-    print(f"point {point}: {len(found)}")
+def show(kind, found):
+    print(f"{kind}: {len(found)}")
     for where in found:
         print("   ", where)
 
 
-def by_line(point):
-    pattern = re.compile(LINES[point])
-    show(point, [f"{n}:{k}: {line.strip()}" for n, k, line in code() if pattern.search(line)])
+def by_line(kind):
+    pattern = re.compile(LINES[kind])
+    show(kind, [f"{n}:{k}: {line.strip()}" for n, k, line in code() if pattern.search(line)])
 
 
 def twins():
@@ -56,7 +57,7 @@ def twins():
             bodies[plain].append(f"{name.split('/')[1]}:{word}")
     found += [f"one body but for names of types and numbers: {', '.join(at)}" for body, at in sorted(bodies.items())
               if len(at) > 1 and len(body) > 20]
-    show(2, found)
+    show("twins", found)
 
 
 def repeated():
@@ -73,7 +74,7 @@ def repeated():
                     groups[names[i], names[j]] += 1
     found = [f"clause in {n}: {c}" for c, n in clauses.most_common() if n > 2]
     found += [f"together in {n}: {a} · {b}" for (a, b), n in groups.most_common() if n > 2]
-    show(5, found)
+    show("together", found)
 
 
 def proofs():
@@ -83,14 +84,14 @@ def proofs():
                                  ("imports from the logic", r"^use (lib|native|mathlib|denote)\.|^use Rattle\.(lib|native)\.", "crates/*/*/**/*.antt")):
         for name in glob.glob(files, recursive=True):
             total[name.split("/")[1], kind] += len(re.findall(pattern, open(name, encoding="utf-8").read(), re.M))
-    show(8, [f"{crate}: {n} {kind}" for (crate, kind), n in sorted(total.items()) if n])
+    show("proofs", [f"{crate}: {n} {kind}" for (crate, kind), n in sorted(total.items()) if n])
 
 
 def main():
-    wanted = [int(word) for word in sys.argv[1:]] or list(range(1, 9))
-    other = {2: twins, 5: repeated, 8: proofs}
-    for point in wanted:
-        other[point]() if point in other else by_line(point)
+    other = {"twins": twins, "together": repeated, "proofs": proofs}
+    kinds = ["enums", "twins", "loops", "by_hand", "together", "buffers", "steps", "proofs"]
+    for kind in sys.argv[1:] or kinds:
+        other[kind]() if kind in other else by_line(kind)
 
 
 main()

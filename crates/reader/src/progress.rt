@@ -75,7 +75,7 @@ impl Phase {
 pub(super) fn is_unknown(token: Token, defined: &[bool; 256]) -> bool
     ensures { result ≡ lacks defined.now (seen token.entry) }
 {
-    matches!(token, Token::Capital(letter) if !defined[letter as usize])
+    matches!(token, Token::Capital(letter) if !defined[usize::from(letter)])
 }
 
 // Whether a token of a right side is a node.
@@ -125,7 +125,7 @@ impl Progress {
         ensures { result ≡ defined_again self.now (seen token.entry) }
     {
         self.phase.begins_equation()
-            && matches!(token, Token::Capital(letter) if self.defined[letter as usize])
+            && matches!(token, Token::Capital(letter) if self.defined[usize::from(letter)])
     }
 
     // Whether the token is a capital outside all square brackets whose equation is not read yet.
@@ -173,7 +173,7 @@ impl Progress {
                 self.enclosing.pop();
             }
             Token::Semicolon => if let Some(letter) = self.left.take() {
-                self.defined[letter as usize] = true;
+                self.defined[usize::from(letter)] = true;
             },
             _ => {}
         }

@@ -27,15 +27,12 @@ fn right_side(node: Node, letter: u8) -> Record {
 // The records of the text stand in front, and the others are as they were.
 fn leaves(rt: &impl Abort, text: &[u8], products: usize, expected: &[Record]) -> Result<(), Fail> {
     let mut records = [LENT; MOST_NODES];
-    match read(text, &mut records) {
-        Ok(counts) => assert_eq!(rt; counts, (expected.len(), products)),
-        Err(_) => return Err(Fail::new("refused")),
-    }
-    for (i, record) in records.iter().enumerate() {
-        match expected.get(i) {
-            Some(other) => assert_eq!(rt; *record, *other),
-            None => assert_eq!(rt; *record, LENT),
-        }
+    let counts = read(text, &mut records).ok().ok_or("refused")?;
+    assert_eq!(rt; counts, (expected.len(), products));
+    let (written, others) = records.split_at_checked(expected.len()).ok_or("too many")?;
+    assert_eq!(rt; written, expected);
+    for other in others {
+        assert_eq!(rt; *other, LENT);
     }
     Ok(())
 }
@@ -43,10 +40,8 @@ fn leaves(rt: &impl Abort, text: &[u8], products: usize, expected: &[Record]) ->
 // All records are as they were.
 fn leaves_none(rt: &impl Abort, text: &[u8], number: u8, place: usize) -> Result<(), Fail> {
     let mut records = [LENT; MOST_NODES];
-    match read(text, &mut records) {
-        Ok(_) => return Err(Fail::new("accepted")),
-        Err(fault) => assert_eq!(rt; (fault.number(), fault.place()), (number, place)),
-    }
+    let fault = read(text, &mut records).err().ok_or("accepted")?;
+    assert_eq!(rt; (fault.number(), fault.place()), (number, place));
     for record in records.iter() {
         assert_eq!(rt; *record, LENT);
     }

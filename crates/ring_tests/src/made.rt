@@ -1,5 +1,5 @@
 // Which rings can be made, and which are in order.
-use rings::{BinaryPolynomials, Dual, Residues, Ring, RingFault};
+use rings::{BinaryPolynomials, Dual, Residues, Ring, RingFault, RingRule};
 use std::test::Fail;
 
 // The size of the ring that is made, or the number and the place of the refusal.
@@ -38,9 +38,21 @@ fn depths(rt: HostRuntime) -> Result<(), Fail> {
     let third = Dual { below: second };
     assert_eq!(rt; first.order(), Ok(()));
     assert_eq!(rt; first.size(), 1 << 62);
-    assert_eq!(rt; second.order(), Err(RingFault::TooLarge { depth: 0 }));
+    assert_eq!(rt;
+        second.order(),
+        Err(RingFault {
+            rule: RingRule::TooLarge,
+            depth: 0
+        })
+    );
     assert_eq!(rt; second.size(), 0);
-    assert_eq!(rt; third.order(), Err(RingFault::TooLarge { depth: 1 }));
+    assert_eq!(rt;
+        third.order(),
+        Err(RingFault {
+            rule: RingRule::TooLarge,
+            depth: 1
+        })
+    );
     assert_eq!(rt; third.size(), 0);
     assert_eq!(rt; third.one(), 0);
     assert_eq!(rt; third.add(1, 1), 0);
@@ -51,17 +63,34 @@ fn depths(rt: HostRuntime) -> Result<(), Fail> {
 
 #[test]
 fn faults(rt: HostRuntime) {
-    let fault = RingFault::TooLarge { depth: 254 };
+    let fault = RingFault {
+        rule: RingRule::TooLarge,
+        depth: 254,
+    };
     assert_eq!(rt; fault.number(), 3);
     assert_eq!(rt; fault.place(), 254);
     assert_eq!(rt; fault.raised().place(), 255);
     assert_eq!(rt; fault.raised().raised().place(), 255);
     assert_eq!(rt;
-        RingFault::Modulus { depth: 7 }.raised(),
-        RingFault::Modulus { depth: 8 }
+        RingFault {
+            rule: RingRule::Modulus,
+            depth: 7
+        }
+        .raised(),
+        RingFault {
+            rule: RingRule::Modulus,
+            depth: 8
+        }
     );
     assert_eq!(rt;
-        RingFault::Polynomial { depth: 0 }.raised(),
-        RingFault::Polynomial { depth: 1 }
+        RingFault {
+            rule: RingRule::Polynomial,
+            depth: 0
+        }
+        .raised(),
+        RingFault {
+            rule: RingRule::Polynomial,
+            depth: 1
+        }
     );
 }

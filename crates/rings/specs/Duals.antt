@@ -1,13 +1,13 @@
 -- The dual numbers a + bε over a ring, with ε² = 0. Over a ring of size s the code of a + bε is a + s × b.
 use Rattle.std.specs.Prelude.{ℕ, ◌+◌, ◌*◌, ◌/◌, ◌%◌, ◌^◌, cond, Ok, Err, nat_le}
-use Rattle.rings.specs.declared.fault.RingFault.TheVariants.{TooLarge}
-use Rattle.rings.specs.Faults.{raised}
+use Rattle.rings.specs.declared.fault.RingRule.TheVariants.{TooLarge}
+use Rattle.rings.specs.Faults.{at_depth, raised}
 use Rattle.rings.specs.Model.{RingModel, Order, in_order, if_in_order, size_of, one_of, sum, opposite, product}
 
 -- whether a dual ring is in order, by the answer of the ring below and its size: the fault of the ring below comes first,
 -- with its depth raised by 1; then fault 3 with depth 0 for a size above 2^31
 abbrev pub order_over : Order → ℕ → Order
-order_over (Ok _) s = cond (nat_le s (2 ^ 31)) in_order (Err (TooLarge 0))
+order_over (Ok _) s = cond (nat_le s (2 ^ 31)) in_order (Err (at_depth TooLarge 0))
 order_over (Err fault) s = Err (raised fault)
 
 abbrev pub dual_order : RingModel → Order

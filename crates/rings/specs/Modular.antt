@@ -1,7 +1,8 @@
 -- Residues modulo m.
 use Rattle.std.specs.Prelude.{◌≡◌, ℕ, ◌+◌, ◌-◌, ◌*◌, ◌%◌, ◌^◌, ◌≤◌, Ok, Err, Result}
 use Rattle.rings.specs.declared.fault.RingFault.{RingFault}
-use Rattle.rings.specs.declared.fault.RingFault.TheVariants.{Modulus}
+use Rattle.rings.specs.Faults.{at_depth}
+use Rattle.rings.specs.declared.fault.RingRule.TheVariants.{Modulus}
 use Rattle.rings.specs.Model.{RingModel, in_order}
 
 -- the sum, the opposite and the product of whole numbers, each with its remainder modulo m taken
@@ -22,4 +23,4 @@ IsModulus m = (2 ≤ m) × (m ≤ 2 ^ 31)
 -- what making a residue ring answers: the residues modulo m, or fault 1 with depth 0 for another m
 abbrev pub MakesResidues : ℕ → Result RingModel RingFault → Type 0
 MakesResidues m (Ok ring) = IsModulus m × (ring ≡ residues m)
-MakesResidues m (Err fault) = (¬ (IsModulus m)) × (fault ≡ Modulus 0)
+MakesResidues m (Err fault) = (¬ (IsModulus m)) × (fault ≡ at_depth Modulus 0)

@@ -4,7 +4,7 @@ ghost use Rattle.rings.specs.Duals.{dual, dual_order, join, side};
 ghost use Rattle.rings.specs.Model.{code, if_in_order, size_of};
 ghost use Rattle.rings.specs.Lemmas.Duals.{dual_lawful};
 
-use super::{MOST, Ring, RingFault, clipped};
+use super::{MOST, Ring, RingFault, RingRule, clipped};
 
 // The dual numbers over the ring below. They can always be made; order() says whether they are in order.
 #[derive(Clone, Copy)]
@@ -13,7 +13,7 @@ pub struct Dual<R> {
 }
 
 impl<R: Ring> Dual<R> {
-    // The size of the ring below where the dual ring is in order, else 0.
+    // The size of the ring below where the dual ring is in order, else 0, as a ring that is not in order has the size 0.
     #[tactic(auto, using(crate::specs::Lemmas::Duals::side_fits, crate::specs::Lemmas::Duals::side_large))]
     fn side(&self) -> u64
         ensures value { result ≡ side (R.meaning self.now.below) }
@@ -30,11 +30,9 @@ impl<R: Ring> Dual<R> {
         ensures second { result.1 ≡ code (dual (R.meaning self.now.below)) x / size_of (R.meaning self.now.below) }
     {
         let s = self.side();
-        if s == 0 {
-            return (0, 0);
-        }
         let x = clipped(s * s, x);
-        (x % s, x / s)
+        let first = x.checked_rem(s).unwrap_or(0);
+        (first, x.checked_div(s).unwrap_or(0))
     }
 
     // The code of a + bε.
@@ -56,7 +54,7 @@ impl<R: Ring> Ring for Dual<R> {
     fn order(&self) -> Result<(), RingFault> {
         self.below.order().map_err(RingFault::raised)?;
         if self.below.size() > MOST {
-            return Err(RingFault::TooLarge { depth: 0 });
+            return Err(RingRule::TooLarge.at(0));
         }
         Ok(())
     }

@@ -1,62 +1,62 @@
 // Why a ring cannot be made, or is not in order.
-ghost use Rattle.rings.specs.Faults.{fault_text, number_of, place_of, raised};
+ghost use Rattle.rings.specs.Faults.{at_depth, fault_text, number_of, place_of, raised};
 ghost use Rattle.std.specs.Fmt.{DisplaysOnOk};
 ghost use Rattle.std.specs.Prelude.{◌≡◌, Some};
 
 use std::error::Error;
 use std::fmt;
 
-// The depth says how many rings lie above the one at fault. It stands in each case, since the list of refusals gives each case its number and
-// its values.
+// The rules of rings, each with the number of its refusal.
 #[derive(Clone, Copy, PartialEq, Eq, Debug)]
-pub enum RingFault {
-    // 1: the modulus of a residue ring is not from 2 to 2^31
-    Modulus { depth: u8 },
-    // 2: the degree of f is not from 1 to 31
-    Polynomial { depth: u8 },
-    // 3: the ring below a dual ring has more than 2^31 elements
-    TooLarge { depth: u8 },
+pub enum RingRule {
+    // the modulus of a residue ring is not from 2 to 2^31
+    Modulus = 1,
+    // the degree of f is not from 1 to 31
+    Polynomial = 2,
+    // the ring below a dual ring has more than 2^31 elements
+    TooLarge = 3,
 }
 
+// A rule that a ring breaks, and the depth: how many rings lie above the one at fault.
+#[derive(Clone, Copy, PartialEq, Eq, Debug)]
+pub struct RingFault {
+    pub rule: RingRule,
+    pub depth: u8,
+}
+
+impl RingRule {
+    // The rule is broken at this depth.
+    pub(super) fn at(self, depth: u8) -> RingFault
+        ensures { result ≡ at_depth self depth }
+    {
+        RingFault { rule: self, depth }
+    }
+}
+
+// (The faults of each layer have their number and place from their own definitions, and nothing asks for those of any layer: a trait over
+// them would only be one name more.)
 impl RingFault {
-    // The number of the refusal. (A case that has values has no number of its own in the language, so it is told by a match.)
+    // The number of the refusal.
     pub fn number(&self) -> u8
         ensures { result ≡ number_of self.now }
     {
-        match self {
-            RingFault::Modulus { .. } => 1,
-            RingFault::Polynomial { .. } => 2,
-            RingFault::TooLarge { .. } => 3,
-        }
-    }
-
-    // How many rings lie above the one at fault.
-    fn depth(&self) -> u8
-        ensures { result ≡ place_of self.now }
-    {
-        match self {
-            RingFault::Modulus { depth }
-            | RingFault::Polynomial { depth }
-            | RingFault::TooLarge { depth } => *depth,
-        }
+        self.rule as u8
     }
 
     // The place of the fault, its depth.
     pub fn place(&self) -> usize
         ensures { result ≡ place_of self.now }
     {
-        self.depth() as usize
+        usize::from(self.depth)
     }
 
     // The same fault, handed up by the ring above.
     pub fn raised(self) -> RingFault
         ensures { result ≡ raised self }
     {
-        let depth = self.depth().saturating_add(1);
-        match self {
-            RingFault::Modulus { .. } => RingFault::Modulus { depth },
-            RingFault::Polynomial { .. } => RingFault::Polynomial { depth },
-            RingFault::TooLarge { .. } => RingFault::TooLarge { depth },
+        RingFault {
+            depth: self.depth.saturating_add(1),
+            ..self
         }
     }
 }

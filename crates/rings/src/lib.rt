@@ -10,7 +10,7 @@ mod modular;
 mod polynomial;
 
 pub use epsilon::Dual;
-pub use fault::{RingFault, write_fault};
+pub use fault::{RingFault, RingRule, write_fault};
 pub use modular::Residues;
 pub use polynomial::BinaryPolynomials;
 

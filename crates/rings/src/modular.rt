@@ -4,7 +4,7 @@ ghost use Rattle.rings.specs.Answers.{through};
 ghost use Rattle.rings.specs.Modular.{MakesResidues, residues};
 ghost use Rattle.rings.specs.Lemmas.Remainders.{residues_laws};
 
-use super::{MOST, Ring, RingFault, clipped};
+use super::{MOST, Ring, RingFault, RingRule, clipped};
 
 #[derive(Clone, Copy)]
 pub struct Residues {
@@ -19,7 +19,7 @@ impl Residues {
         ensures { MakesResidues modulus (through (λ ring. residues ring.modulus) result) }
     {
         if modulus < 2 || modulus > MOST {
-            return Err(RingFault::Modulus { depth: 0 });
+            return Err(RingRule::Modulus.at(0));
         }
         Ok(Residues { modulus })
     }

@@ -4,7 +4,7 @@ ghost use Rattle.rings.specs.Polynomials.{MakesPolynomials, polynomials};
 ghost use Rattle.std.specs.Prelude.{◌≡◌};
 ghost use Rattle.rings.specs.Lemmas.Divided.{polynomials_laws};
 
-use super::{Ring, RingFault, clipped};
+use super::{Ring, RingFault, RingRule, clipped};
 use binary::Divisor;
 
 #[derive(Clone, Copy)]
@@ -17,7 +17,7 @@ impl BinaryPolynomials {
     pub fn new(f: u64) -> Result<BinaryPolynomials, RingFault>
         ensures { MakesPolynomials f (through (λ ring. polynomials ring.divisor.f ring.divisor.degree) result) }
     {
-        let divisor = Divisor::new(f).ok_or(RingFault::Polynomial { depth: 0 })?;
+        let divisor = Divisor::new(f).ok_or(RingRule::Polynomial.at(0))?;
         Ok(BinaryPolynomials { divisor })
     }
 }

@@ -14,7 +14,8 @@ pub use fault::TableFault;
 pub use products::product_term;
 pub use tabulation::Tabulation;
 
-// How many weights stand in the rows before row n of a table. (A table is one list, row after row, as all that multiply with it want it.)
+// How many weights stand in the rows before row n of a table. (A table is one vector, reserved at once, which `product_term` takes as one
+// slice.)
 fn rows_before(n: usize) -> usize
     requires { n ≤ 64 }
     ensures { result ≡ rows_before n }

@@ -30,6 +30,7 @@ impl ProductKind {
         let table = Tabulation {
             ring: *ring,
             q,
+            // a length that is never refused
             length: 1,
         };
         table.admit()?;

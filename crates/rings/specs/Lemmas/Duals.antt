@@ -6,8 +6,8 @@ use Rattle.std.proofs.Math.Nat.{mod-eq_of_lt, mod-add-div, add-mul-mod_self_left
 use Rattle.std.proofs.lemmas.Bool.{lt-leb}
 use Rattle.std.proofs.lemmas.Nat.{mul-le, mul-add-lt, div_below}
 use Rattle.rings.specs.declared.fault.RingFault.{RingFault}
-use Rattle.rings.specs.declared.fault.RingFault.TheVariants.{TooLarge}
-use Rattle.rings.specs.Faults.{raised}
+use Rattle.rings.specs.declared.fault.RingRule.TheVariants.{TooLarge}
+use Rattle.rings.specs.Faults.{at_depth, raised}
 use Rattle.rings.specs.Model.{RingModel, Order, in_order, Laws, Lawful, if_in_order, clip, code, size_of, one_of, sum, opposite, product}
 use Rattle.rings.specs.Duals.{order_over, dual_order, side, join, dual}
 use Rattle.rings.specs.Lemmas.Refused.{not_ok}
@@ -16,9 +16,9 @@ use Rattle.rings.specs.Lemmas.Rules.{sum_zero, zero_product, expand}
 
 -- ---- a dual ring in order is over a ring in order, of size at most 2^31
 
-small : (s : ℕ) (t : Bool) → nat_le s (2 ^ 31) ≡ t → cond t in_order (Err (TooLarge 0)) ≡ in_order → s ≤ 2 ^ 31
+small : (s : ℕ) (t : Bool) → nat_le s (2 ^ 31) ≡ t → cond t in_order (Err (at_depth TooLarge 0)) ≡ in_order → s ≤ 2 ^ 31
 small s true q e = leb-true s (2 ^ 31) q
-small s false q e = not_ok (TooLarge 0) tt e
+small s false q e = not_ok (at_depth TooLarge 0) tt e
 
 over_ok : (o : Order) (s : ℕ) → order_over o s ≡ in_order → (o ≡ in_order) × (s ≤ 2 ^ 31)
 over_ok (Ok u) s e = (refl, small s (nat_le s (2 ^ 31)) refl e)
@@ -191,7 +191,7 @@ module _ (b : RingModel) (lawful : Lawful b) where
 
 -- ---- whether it is in order
 
-pub order_large : (b : RingModel) → b.order ≡ in_order → 2 ^ 31 < size_of b → (dual b).order ≡ Err (TooLarge 0)
+pub order_large : (b : RingModel) → b.order ≡ in_order → 2 ^ 31 < size_of b → (dual b).order ≡ Err (at_depth TooLarge 0)
 unfolding dual
 order_large b on h = ap (λ (o : Order). order_over o (size_of b)) on ∙ rw (lt-leb _ _ h)
 
