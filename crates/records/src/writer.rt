@@ -40,7 +40,7 @@ fn value(digits: &[u8]) -> u32
 }
 
 impl Sheet {
-    // The number of the last record.
+    // The number of the last record; 0 before there is one, which no accepted text asks for.
     fn last(&self) -> usize
         ensures { result ≡ last_of self.now }
     {
@@ -108,7 +108,8 @@ pub struct Writer {
     // what waits in the innermost group, and in those around it, the outermost first
     frame: Frame,
     outer: ArrayVec<Frame, MOST_GROUPS>,
-    // the record of each unknown's right side, by the letter's byte: a map of the library would need the heap
+    // the record of each unknown's right side, by the letter's byte (0 for a letter without an equation, which no accepted text names): a map
+    // of the library would need the heap
     pub(super) roots: [usize; 256],
 }
 
