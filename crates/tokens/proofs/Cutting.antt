@@ -41,3 +41,7 @@ first bs l f n h =
 -- separators only: no token
 pub none_left : (bs : List ℕ) → Every separator bs → (p : ℕ) → tokens_from p bs ≡ []
 none_left bs h p = only_tokens (ends p bs h)
+
+-- what follows a token is no longer than the text
+pub rest_shorter : (bs : List ℕ) (l : Lexed) → Front bs l → length l.rest.now ≤ length bs
+rest_shorter bs l f = omega (arith, ap length f.split, length-append f.gap (f.word ++ l.rest.now), length-append f.word l.rest.now)

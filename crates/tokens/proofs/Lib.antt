@@ -1,4 +1,5 @@
 pub mod Fronts
 pub mod Listing
+pub mod Lists
 pub mod Cutting
 pub mod Singles

@@ -6,8 +6,25 @@ use Rattle.tokens.specs.Kinds.{Kind, number, digit, separator, single}
 use Rattle.std.specs.List.{prefix_len}
 use Rattle.tokens.specs.Inner.Fronts.{past_separators}
 use Rattle.tokens.specs.Tokens.{starts_digit, Token, token, Every, Spells, run, alone, Tokens, ends, goes_on, OneList}
-pub use Rattle.tokens.specs.Listed.{longer, join, shape, tokens_from}
 use Rattle.tokens.proofs.Fronts.{gap, gap_split, gap_separators, past_none, all_separators, more_run, run_digits, run_all, digit_separator}
+
+-- a digit in front of a number joins it
+abbrev pub longer : ℕ → Kind → Kind
+longer d (number ds) = number (d ∷ ds)
+longer d k = k
+
+abbrev pub join : ℕ → ℕ → List Token → List Token
+join p d [] = []
+join p d (t ∷ ts) = token (longer d t.kind) p ∷ ts
+
+-- one byte more, by whether it is a separator or a digit, and whether a digit follows it
+abbrev pub shape : Bool → Bool → Bool → ℕ → ℕ → List Token → List Token
+shape s d n p b ts = cond s ts (cond d (cond n (join p b ts) (token (number (b ∷ [])) p ∷ ts)) (token (single b) p ∷ ts))
+
+-- the tokens of a part of a text that has p bytes before it
+abbrev pub tokens_from : ℕ → List ℕ → List Token
+tokens_from p [] = []
+tokens_from p (b ∷ bs) = shape (separator b) (digit b) (starts_digit bs) p b (tokens_from (p + 1) bs)
 
 shaped : (p b : ℕ) (bs : List ℕ) (s d n : Bool) → separator b ≡ s → digit b ≡ d → starts_digit bs ≡ n → tokens_from p (b ∷ bs) ≡ shape s d n p b (tokens_from (p + 1) bs)
 shaped p b bs s d n es ed en = λ i. shape (es i) (ed i) (en i) p b (tokens_from (p + 1) bs)

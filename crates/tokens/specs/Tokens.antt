@@ -1,5 +1,7 @@
 -- The tokens of a text, each with its place.
 use Rattle.std.specs.Prelude.{◌≡◌, ℕ, ◌+◌, ◌<◌, Bool, true, false, List, [], ◌∷◌, ◌++◌, length}
+use std.Equiv.{IsContr}
+use std.HLevel.{IsContr-prop}
 use Rattle.tokens.specs.Kinds.{Kind, number, digit, separator, single}
 
 -- a part of a text, with the number of bytes before it
@@ -31,6 +33,13 @@ pub data Tokens : ℕ → List ℕ → List Token → Type 0 where
   ends : (p : ℕ) (gap : List ℕ) → Every separator gap → Tokens p gap []
   goes_on : (p : ℕ) (gap word rest : List ℕ) (k : Kind) (ts : List Token) → Every separator gap → Spells k word rest
       → Tokens (p + (length gap + length word)) rest ts → Tokens p (gap ++ (word ++ rest)) (token k (p + length gap) ∷ ts)
+
+-- there is one and only one list of the tokens of such a part
+abbrev pub HasOneList : ℕ → List ℕ → Type 0
+HasOneList p bs = IsContr ((ts : List Token) × ∥ Tokens p bs ts ∥₁)
+
+pub HasOneList-prop : (p : ℕ) (bs : List ℕ) → IsProp (HasOneList p bs)
+HasOneList-prop p bs = IsContr-prop
 
 -- every text has one and only one list of tokens
 pub record OneList : Type 0 where

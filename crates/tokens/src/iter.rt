@@ -1,17 +1,21 @@
 // The tokens of a text, one after another.
-ghost use Rattle.std.specs.Prelude.{◌≤◌, length};
+ghost use Rattle.tokens.specs.Tokens.{HasOneList, HasOneList-prop};
+ghost use Rattle.std.specs.Prelude.{◌-◌, ◌≤◌, length};
 
 use super::lexer::next_token;
 use super::token::Token;
 use std::iter::FusedIterator;
 
-// Gives the tokens of a text, each with its place: the number of bytes of the text before it.
-#[derive(Clone, Copy, Debug)]
+// Gives the tokens of a text, each with its place: the number of bytes of the text before it. It is no `Copy`, since a copy by accident
+// would give the same tokens again, and nothing wants a clone.
+#[derive(Debug, Drop)]
 pub struct Tokens<'a> {
     // the part of the text that is not taken apart yet, and the number of bytes of the whole text
     pub(super) rest: &'a [u8],
     pub(super) whole: usize,
     pub ghost within: { length rest.now ≤ whole },
+    // the tokens that are to come, as the one list of those of the rest
+    pub ghost ahead: { HasOneList (whole - length rest.now) rest.now } by { HasOneList-prop _ _ },
 }
 
 impl<'a> Iterator for Tokens<'a> {

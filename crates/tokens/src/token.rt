@@ -1,6 +1,7 @@
 // What a token is.
 
 // A pair of signs that groups a sum: round ones only group, square ones stand for the bracket of the sum.
+// It has a `Default` since a vector of a fixed capacity fills its unused places with it.
 #[derive(Clone, Copy, PartialEq, Eq, Default, Debug)]
 pub enum Group {
     #[default]

@@ -1,13 +1,12 @@
-use Rattle.std.proofs.Common.{ℕ, subst, arith}
-use Rattle.tokens.specs.Listed.{tokens_from}
-use Rattle.tokens.specs.Tokens.{Tokens}
-use Rattle.tokens.proofs.Listing.{tokens_listed, few_tokens}
+use Rattle.std.proofs.Common.{refl, arith}
+use Rattle.tokens.proofs.Lists.{one_of, all_listed, few_left}
 use Rattle.tokens.proofs.lexer.tokens.Goals as goal
 
+pub invariant_of-result : goal.invariant_of-result
+invariant_of-result c = record { within = omega arith; ahead = one_of _ _ }
+
 pub returns-clause-listed : goal.returns-clause-listed
-returns-clause-listed c =
-    let s = c.args.text.now in
-    subst (λ (p : ℕ). Tokens 0 s (tokens_from p s)) (omega arith) (tokens_listed 0 s)
+returns-clause-listed c = all_listed _ refl
 
 pub returns-clause-few : goal.returns-clause-few
-returns-clause-few c = few_tokens (tokens_listed _ c.args.text.now)
+returns-clause-few c = few_left _
