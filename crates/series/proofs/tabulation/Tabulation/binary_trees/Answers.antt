@@ -31,14 +31,6 @@ enough m q N n cells row ok t tree h =
       weights = let e = t.count in let p = place_below n n N h (omega arith) in omega arith;
     }
 
-pub summed-term-requires : goal.summed-term-requires
-summed-term-requires g c =
-    let m = g.R.Ring.meaning c.args.self.now.ring in
-    let made = c.in_ok-weights.ensures.answer in
-    let ok = admits m c.args.self.now.q c.args.self.now.length made.0 in
-    rw (c.deref.ensures.value, c.deref-in-loop-n.ensures.value, c.deref-in-loop-n-2.ensures.value)
-    (enough m c.args.self.now.q c.args.self.now.length c.loop-n.n _ _ ok made.1 c.loop-n.invariant.0 (omega arith))
-
 pub loop-n-preserved : goal.loop-n-preserved
 loop-n-preserved g c =
     let m = g.R.Ring.meaning c.args.self.now.ring in
