@@ -38,21 +38,9 @@ fn depths(rt: HostRuntime) -> Result<(), Fail> {
     let third = Dual { below: second };
     assert_eq!(rt; first.order(), Ok(()));
     assert_eq!(rt; first.size(), 1 << 62);
-    assert_eq!(rt;
-        second.order(),
-        Err(RingFault {
-            rule: RingRule::TooLarge,
-            depth: 0
-        })
-    );
+    assert_eq!(rt; second.order(), Err(RingRule::TooLarge.at(0)));
     assert_eq!(rt; second.size(), 0);
-    assert_eq!(rt;
-        third.order(),
-        Err(RingFault {
-            rule: RingRule::TooLarge,
-            depth: 1
-        })
-    );
+    assert_eq!(rt; third.order(), Err(RingRule::TooLarge.at(1)));
     assert_eq!(rt; third.size(), 0);
     assert_eq!(rt; third.one(), 0);
     assert_eq!(rt; third.add(1, 1), 0);
@@ -63,34 +51,14 @@ fn depths(rt: HostRuntime) -> Result<(), Fail> {
 
 #[test]
 fn faults(rt: HostRuntime) {
-    let fault = RingFault {
-        rule: RingRule::TooLarge,
-        depth: 254,
-    };
+    let fault = RingRule::TooLarge.at(254);
     assert_eq!(rt; fault.number(), 3);
     assert_eq!(rt; fault.place(), 254);
     assert_eq!(rt; fault.raised().place(), 255);
     assert_eq!(rt; fault.raised().raised().place(), 255);
+    assert_eq!(rt; RingRule::Modulus.at(7).raised(), RingRule::Modulus.at(8));
     assert_eq!(rt;
-        RingFault {
-            rule: RingRule::Modulus,
-            depth: 7
-        }
-        .raised(),
-        RingFault {
-            rule: RingRule::Modulus,
-            depth: 8
-        }
-    );
-    assert_eq!(rt;
-        RingFault {
-            rule: RingRule::Polynomial,
-            depth: 0
-        }
-        .raised(),
-        RingFault {
-            rule: RingRule::Polynomial,
-            depth: 1
-        }
+        RingRule::Polynomial.at(0).raised(),
+        RingRule::Polynomial.at(1)
     );
 }

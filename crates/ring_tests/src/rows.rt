@@ -1,5 +1,5 @@
 // The weights, single terms and whole rows.
-use rings::{BinaryPolynomials, Dual, Residues, Ring, RingFault, RingRule};
+use rings::{BinaryPolynomials, Dual, Residues, Ring, RingRule};
 use series::{TableFault, Tabulation, product_term};
 use std::alloc::Global;
 use std::test::Fail;
@@ -66,10 +66,7 @@ fn refusals(rt: HostRuntime) -> Result<(), Fail> {
     ] {
         assert_eq!(rt; refusal(heap, ring, q, length), refused);
     }
-    let inner = RingFault {
-        rule: RingRule::TooLarge,
-        depth: 0,
-    };
+    let inner = RingRule::TooLarge.at(0);
     let table = Tabulation {
         ring: large,
         q: 0,
@@ -89,10 +86,7 @@ fn refusal<R: Ring>(heap: Global, ring: R, q: u64, length: usize) -> Option<(u8,
 #[test]
 fn printed_faults(rt: HostRuntime) -> Result<(), Fail> {
     let heap = rt.alloc();
-    let fault = RingFault {
-        rule: RingRule::TooLarge,
-        depth: 254,
-    };
+    let fault = RingRule::TooLarge.at(254);
     assert_eq!(rt; format!(in heap; "{fault}")?.as_str(), "fault 3 at 254");
     for (fault, expected) in [
         (TableFault::from(fault), "fault 20 at 254"),

@@ -26,15 +26,15 @@ pub struct RingFault {
 
 impl RingRule {
     // The rule is broken at this depth.
-    pub(super) fn at(self, depth: u8) -> RingFault
+    pub fn at(self, depth: u8) -> RingFault
         ensures { result ≡ at_depth self depth }
     {
         RingFault { rule: self, depth }
     }
 }
 
-// (The faults of each layer have their number and place from their own definitions, and nothing asks for those of any layer: a trait over
-// them would only be one name more.)
+// (The faults of each layer tell their number and place by bodies and definitions of their own, and print themselves by one line each, through
+// `write_fault`: a trait over them would take nothing away.)
 impl RingFault {
     // The number of the refusal.
     pub fn number(&self) -> u8

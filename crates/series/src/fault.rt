@@ -22,7 +22,8 @@ pub enum TableFault {
 }
 
 impl TableFault {
-    // The number of the refusal; 0 for want of memory. (Since a case holds the ring's fault, the cases have no numbers in the language.)
+    // The number of the refusal; 0 for want of memory. (It is on no list of refusals, so it has no other. Since a case holds the ring's
+    // fault, the cases have no numbers in the language.)
     pub fn number(&self) -> u8
         ensures { result ≡ number_of self.now }
     {

@@ -1,5 +1,5 @@
 // Two rings: which fault decides, and the first parts of dual numbers.
-use rings::{Dual, Residues, Ring, RingFault, RingRule};
+use rings::{Dual, Residues, Ring, RingRule};
 use series::Tabulation;
 use std::test::Fail;
 use systems::{both_in_order, first_part, tabulate_trees};
@@ -13,31 +13,16 @@ fn the_first_fault_decides(rt: HostRuntime) -> Result<(), Fail> {
     assert_eq!(rt; both_in_order(&large, &dual), Ok(()));
     assert_eq!(rt;
         both_in_order(&dual, &second),
-        Err(RingFault {
-            rule: RingRule::TooLarge,
-            depth: 0
-        })
+        Err(RingRule::TooLarge.at(0))
     );
-    assert_eq!(rt;
-        both_in_order(&third, &dual),
-        Err(RingFault {
-            rule: RingRule::TooLarge,
-            depth: 1
-        })
-    );
+    assert_eq!(rt; both_in_order(&third, &dual), Err(RingRule::TooLarge.at(1)));
     assert_eq!(rt;
         both_in_order(&second, &third),
-        Err(RingFault {
-            rule: RingRule::TooLarge,
-            depth: 0
-        })
+        Err(RingRule::TooLarge.at(0))
     );
     assert_eq!(rt;
         both_in_order(&third, &second),
-        Err(RingFault {
-            rule: RingRule::TooLarge,
-            depth: 1
-        })
+        Err(RingRule::TooLarge.at(1))
     );
     Ok(())
 }

@@ -1,5 +1,5 @@
 // The rows that are worked out are the rows that are proved, and each q has its product.
-use rings::{BinaryPolynomials, Dual, Residues, Ring, RingFault, RingRule};
+use rings::{BinaryPolynomials, Dual, Residues, Ring, RingRule};
 use series::{TableFault, Tabulation};
 use std::test::Fail;
 use systems::{Example, ProductKind, tabulate_trees};
@@ -56,10 +56,7 @@ fn refused_kinds(rt: HostRuntime) -> Result<(), Fail> {
             below: Residues::new(0x8000_0000)?,
         },
     };
-    let fault = RingFault {
-        rule: RingRule::TooLarge,
-        depth: 0,
-    };
+    let fault = RingRule::TooLarge.at(0);
     assert_eq!(rt; ProductKind::of(&ring, 0), Err(TableFault::Ring(fault)));
     assert_eq!(rt;
         ProductKind::of(&ring, u64::MAX),

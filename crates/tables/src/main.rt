@@ -22,7 +22,7 @@ impl fmt::Display for Row<'_> {
 }
 
 // The product of series that goes with q, or the fault that refuses q or the ring. (Here and below a fault is printed where it comes, in one
-// line: one function for all would take what else is to be done as a closure.)
+// line of a `match`, which a function over all of them would only replace by a call and a closure.)
 fn print_kind<R: Ring>(rt: &HostRuntime, ring: R, q: u64) -> io::Result<()> {
     match ProductKind::of(&ring, q) {
         Ok(kind) => println!(rt; "product of {kind}"),

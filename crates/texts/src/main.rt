@@ -5,7 +5,8 @@ use reader::examine;
 use records::{MOST_NODES, Record, read};
 use std::io;
 
-// The text with its number of nodes and of product signs, or the fault that decides.
+// The text with its number of nodes and of product signs, or the fault that decides. (Here and below it is printed where it comes, in one
+// line of a `match`.)
 fn print_text(rt: &HostRuntime, text: &str) -> io::Result<()> {
     println!(rt; "text {text}")?;
     match examine(text.as_bytes()) {
