@@ -183,12 +183,12 @@ impl Progress {
         self.phase = self.phase.behind(token);
     }
 
-    // Reads a token, unless it breaks a rule: the answer is the one of lowest number.
+    // Reads a token; or, where it breaks a rule, answers the one of lowest number and leaves all as it was.
     pub(super) fn read(&mut self, token: Token) -> Result<(), Rule>
         requires { self.old.nodes ≤ 64 }
         ensures { MatchResult result
             (λ _. (breaks self.old (seen token.entry) ≡ None) × (self.new ≡ after self.old (seen token.entry)))
-            (λ rule. breaks self.old (seen token.entry) ≡ Some rule) }
+            (λ rule. (breaks self.old (seen token.entry) ≡ Some rule) × (self.new ≡ self.old)) }
     {
         self.check(token)?;
         self.take(token);
