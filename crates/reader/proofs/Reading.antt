@@ -1,5 +1,5 @@
 -- What a turn of the reader's loop keeps, and what its ends answer.
-use Rattle.std.proofs.Common.{◌≡◌, ℕ, zero, suc, ◌≤◌, Bool, true, false, cond, not, List, [], ◌∷◌, length, get_or, replicate, Ok, Err, Result, sym, refl, ap, ◌∙◌, subst, arith, Some, None, Option}
+use Rattle.std.proofs.Common.{◌≡◌, ℕ, zero, suc, ◌+◌, ◌≤◌, Bool, true, false, cond, not, List, [], ◌∷◌, length, get_or, replicate, Ok, Err, Result, sym, refl, ap, ◌∙◌, subst, arith, Some, None, Option}
 use Rattle.std.specs.Option.{option_map}
 use Rattle.tokens.specs.Kinds.{Kind}
 use Rattle.tokens.specs.Tokens.{Token, Tokens}
@@ -21,7 +21,8 @@ use Rattle.reader.proofs.Sound.{start}
 use Rattle.reader.proofs.Sizes.{same_nodes}
 use Rattle.reader.proofs.Faults.{test, first, rules, stepped, steps, least, Least, ascending, among_all, Scan, stop, end, scan, Scanned, scanned, not_none, unknown}
 use Rattle.reader.proofs.Follow.{Code, phase_of, unbroken, follows, same_tests, same_name}
-use Rattle.reader.proofs.Signs.{Letters, all_letters}
+use Rattle.reader.proofs.Signs.{Letters, all_letters, star_signs}
+use Rattle.reader.specs.Sorts.{count, is_star}
 use Rattle.reader.proofs.Answering.{examined_scan}
 
 blank : (n c : ℕ) → get_or (replicate n false) c false ≡ false
@@ -81,6 +82,23 @@ standing {text} h w s e = (
     scans = ap (scan (at [])) (only_tokens w);
   },
 )
+
+-- with the product signs counted so far, those of the tokens to read make up those of the text
+abbrev pub Counts : List ℕ → List Token → ℕ → Type 0
+Counts text ts n = n + count is_star (kinds ts) ≡ product_signs text
+
+pub none_counted : {text : List ℕ} {ts : List Token} → Tokens 0 text ts → Counts text ts 0
+none_counted {text} w = subst (λ (l : List Token). Counts text l 0) (only_tokens w) (omega (arith, star_signs 0 text))
+
+pub one_counted : (text : List ℕ) (n : ℕ) (us : List Token) (t : Token) (ts : List Token) → us ≡ t ∷ ts → Counts text us n → Counts text ts (n + cond (is_star t.kind) 1 0)
+one_counted text n us t ts e h =
+    let split : n + (cond {A = ℕ} (is_star t.kind) 1 0 + count is_star (kinds ts)) ≡ product_signs text = subst (λ (l : List Token). Counts text l n) e h in
+    omega (arith, split)
+
+pub all_counted : (text : List ℕ) (us : List Token) (n : ℕ) → us ≡ [] → Counts text us n → n ≡ product_signs text
+all_counted text us n e h =
+    let none : n + 0 ≡ product_signs text = subst (λ (l : List Token). Counts text l n) e h in
+    omega (arith, none)
 
 module _ {text : List ℕ} {us : List Token} {s : Progress} (h : Reads text us s) where
   module _ (t : Token) (ts : List Token) (first_is : us ≡ t ∷ ts) where

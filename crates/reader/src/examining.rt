@@ -1,15 +1,17 @@
 // Examines a text in full.
-ghost use Rattle.reader.specs.Examining.{Examined, product_signs};
+ghost use Rattle.reader.specs.Examining.{Examined};
 ghost use Rattle.reader.specs.Examples.{WorkedTexts};
 ghost use Rattle.reader.specs.Outcomes.{TextLaws};
 ghost use Rattle.reader.specs.Inner.Progress.{missing};
+ghost use Rattle.reader.specs.Sorts.{is_star};
+ghost use Rattle.tokens.specs.Lexing.{seen};
 ghost use Rattle.tokens.specs.Tokens.{Token as Listed, Tokens};
 ghost use Rattle.std.specs.Prelude.{◌≡◌, List};
 
 use super::MOST_BYTES;
 use super::fault::{Rule, TextFault};
 use super::progress::{Phase, Progress, is_unknown};
-use tokens::tokens;
+use tokens::{Token, tokens};
 
 // The place of the first capital that is not among the letters with an equation.
 fn first_unknown(text: &[u8], defined: &[bool; 256]) -> Option<usize>
@@ -20,10 +22,11 @@ fn first_unknown(text: &[u8], defined: &[bool; 256]) -> Option<usize>
         .map(|(place, _)| place)
 }
 
-fn count_products(text: &[u8]) -> usize
-    ensures { result ≡ product_signs text.now }
+// Whether the token is the sign of a product.
+fn is_star(token: Token) -> bool
+    ensures { result ≡ is_star (seen token.entry) }
 {
-    text.iter().filter(|byte| **byte == b'*').count()
+    matches!(token, Token::Star)
 }
 
 // The number of nodes and of product signs of a text, a pair as the project wants it, or the fault that decides.
@@ -39,14 +42,16 @@ pub fn examine(text: &[u8]) -> Result<(usize, usize), TextFault>
         return Err(Rule::TooLong.at(MOST_BYTES));
     }
     let mut progress = Progress::new();
+    let mut products = 0;
     for (place, token) in tokens(text) {
         progress.read(token).map_err(|rule| rule.at(place))?;
+        products += usize::from(is_star(token));
     }
     if progress.phase != Phase::Between {
         return Err(Rule::NotAllowed.at(text.len()));
     }
     match first_unknown(text, &progress.defined) {
         Some(place) => Err(Rule::NoEquation.at(place)),
-        None => Ok((progress.nodes, count_products(text))),
+        None => Ok((progress.nodes, products)),
     }
 }

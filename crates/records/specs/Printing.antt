@@ -21,10 +21,11 @@ node_text (Difference j k) = pair_text (codes "difference") j k
 node_text (Product j k) = pair_text (codes "product") j k
 node_text (Bracket j) = codes "bracket of " ++ decimal j
 
--- the node, and the unknown whose right side it is, if any
+-- what follows a node that is a whole right side: its unknown; and nothing behind any other node
 abbrev pub right_side_text : Option ℕ → List ℕ
 right_side_text None = []
 right_side_text (Some a) = codes ", the right side of " ++ encode_utf8 a
 
+-- the node, and the unknown whose right side it is, if any
 abbrev pub record_text : Record → List ℕ
 record_text r = node_text r.node ++ right_side_text r.unknown

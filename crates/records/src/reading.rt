@@ -52,8 +52,7 @@ pub fn read(text: &[u8], records: &mut [Record; MOST_NODES]) -> Result<(usize, u
     let counts = examine(text)?;
     let writer = write(text);
     let written = writer.sheet.records.as_slice();
-    let front = &mut records[..written.len()];
-    front.copy_from_slice(written);
-    complete(front, &writer.roots);
+    records[..written.len()].copy_from_slice(written);
+    complete(&mut records[..written.len()], &writer.roots);
     Ok(counts)
 }

@@ -1,5 +1,5 @@
 // Sums, opposites and products.
-use rings::{BinaryPolynomials, Dual, Residues, Ring};
+use rings::{BinaryPolynomials, Dual, Residues, Ring, RingFault, RingRule};
 use std::test::Fail;
 
 #[test]
@@ -51,5 +51,34 @@ fn duals(rt: HostRuntime) -> Result<(), Fail> {
     let nested = Dual { below: ring };
     assert_eq!(rt; nested.size(), 10000);
     assert_eq!(rt; nested.mul(100, 10), 1000);
+    Ok(())
+}
+
+// What a ring answers, asked through the bound.
+fn answers<R: Ring>(ring: R) -> (Result<(), RingFault>, [u64; 5]) {
+    let operations = [
+        ring.size(),
+        ring.one(),
+        ring.add(7, 8),
+        ring.neg(3),
+        ring.mul(7, 8),
+    ];
+    (ring.order(), operations)
+}
+
+// A ring that is lent answers as the ring itself.
+#[test]
+fn lent(rt: HostRuntime) -> Result<(), Fail> {
+    let ring = Residues::new(10)?;
+    assert_eq!(rt; answers(&ring), (Ok(()), [10, 1, 5, 7, 6]));
+    let large = Dual {
+        below: Dual {
+            below: Residues::new(0x8000_0000)?,
+        },
+    };
+    assert_eq!(rt;
+        answers(&&large),
+        (Err(RingRule::TooLarge.at(0)), [0, 0, 0, 0, 0])
+    );
     Ok(())
 }

@@ -15,6 +15,7 @@ rule_number Modulus = 1
 rule_number Polynomial = 2
 rule_number TooLarge = 3
 
+-- the number of a ring's fault is that of its rule
 abbrev pub number_of : RingFault → ℕ
 number_of fault = rule_number fault.rule
 

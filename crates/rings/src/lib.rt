@@ -6,6 +6,7 @@ ghost use Rattle.std.specs.Prelude.{◌≡◌};
 
 mod epsilon;
 mod fault;
+mod lent;
 mod modular;
 mod polynomial;
 

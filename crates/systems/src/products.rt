@@ -28,7 +28,7 @@ impl ProductKind {
         ensures series { SeriesRings (R.meaning ring.now) }
     {
         let table = Tabulation {
-            ring: *ring,
+            ring,
             q,
             // a length that is never refused
             length: 1,
